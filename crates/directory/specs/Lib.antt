@@ -1,0 +1,2 @@
+-- The annex directory.
+pub mod Places

@@ -1,0 +1,21 @@
+-- The laws of the layout.
+pub mod Laws
+pub mod Rises
+pub mod Round
+pub mod Same
+pub mod Insert
+pub mod Bridge
+pub mod Remove
+pub mod Loops
+pub mod Walks
+pub mod InsertLaw
+pub mod RemoveLaw
+pub mod Calls
+pub mod Draws
+pub mod Double
+pub mod RunLaws
+pub mod Searches
+pub mod Puts
+pub mod Plucks
+pub mod Replaces
+pub mod Keeps

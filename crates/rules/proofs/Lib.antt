@@ -1,0 +1,2 @@
+-- What is computed and proved on the definitions.
+pub mod Cases
