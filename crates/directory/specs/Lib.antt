@@ -1,2 +1,3 @@
 -- The annex directory.
 pub mod Places
+pub mod Lookup

@@ -1,7 +1,195 @@
 // The annex directory: an array of fifteen small structs, passed by value.
+ghost use mathlib.Core.Path.{_≡_};
+ghost use mathlib.Core.List.{_∷_, [], _++_};
+ghost use Prim.Native.Nat.{ℕ, _+_, _*_, _≤_, _<_, _^_};
+ghost use lib.Dec.{T};
+ghost use lib.ListN.{length, getD, take, drop, set};
+ghost use Rattle.lists.specs.Lists.{every};
+ghost use Rattle.directory.specs.Places.{noPlace, placesInUse, placesNotInUse, placesRight, zeroPlace, directoryRight, wordsTaken, partIn, trim, fifteen};
+ghost use Rattle.directory.specs.Lookup.{PlaceOf};
+
 #[repr(C)]
 pub struct Place {
     pub b: u32,
     pub s: u32,
     pub count: u32,
+}
+
+// How many places are in use.
+pub fn places_in_use(places: [Place; 15]) -> usize
+    ensures { λ r. ⌜ (r ≡ length (placesInUse places)) × (r ≤ 15) ⌝ }
+{
+    let mut i: usize = 0;
+    while i < 15 {
+        let p = places[i];
+        if p.b == 0 {
+            return i;
+        }
+        i += 1;
+    }
+    i
+}
+
+fn zero_place(p: Place) -> bool
+    ensures { λ r. ⌜ r ≡ zeroPlace p ⌝ }
+{
+    (p.b == 0) & ((p.s == 0) & (p.count == 0))
+}
+
+// Whether a place in use may follow one of length `last`.
+fn place_right(k: u32, last: u32, p: Place) -> bool
+    requires { ⌜ k ≤ 20 ⌝ }
+    ensures { λ r. ⌜ r ≡ placesRight k last (p ∷ []) ⌝ }
+{
+    if p.b <= last {
+        return false;
+    }
+    if k < p.b {
+        return false;
+    }
+    if p.s < 3 {
+        return false;
+    }
+    if p.b <= p.s {
+        return false;
+    }
+    p.count <= slots::limit_of(p.s)
+}
+
+fn all_zero(places: [Place; 15], from: usize) -> bool
+    requires { ⌜ from ≤ 15 ⌝ }
+    ensures { λ r. ⌜ r ≡ every zeroPlace (drop from places) ⌝ }
+{
+    let mut i = from;
+    while i < 15 {
+        let p = places[i];
+        if zero_place(p) {
+            i += 1;
+        } else {
+            return false;
+        }
+    }
+    true
+}
+
+// The places in use are right, and the rest are zero.
+pub fn directory_right(k: u32, places: [Place; 15]) -> bool
+    requires { ⌜ k ≤ 20 ⌝ }
+    ensures { λ r. ⌜ r ≡ directoryRight k places ⌝ }
+{
+    let mut last: u32 = 5;
+    let mut i: usize = 0;
+    while i < 15 {
+        let place = places[i];
+        if place.b == 0 {
+            return all_zero(places, i);
+        }
+        if place_right(k, last, place) {
+            last = place.b;
+            i += 1;
+        } else {
+            return false;
+        }
+    }
+    true
+}
+
+// The words of a table.
+pub fn table_words(s: u32) -> usize
+    requires { ⌜ s ≤ 20 ⌝ }
+    ensures { λ r. ⌜ (r ≡ 2 ^ s) × (r ≤ 1048576) ⌝ }
+{
+    slots::pow2(s) as usize
+}
+
+// The words of the first n tables: the offset of the table at place n.
+pub fn words_taken(places: [Place; 15], n: usize) -> usize
+    requires { ⌜ (n ≤ length (placesInUse places)) × ((j : ℕ) → getD places j noPlace .s ≤ 20) ⌝ }
+    ensures { λ r. ⌜ (r ≡ wordsTaken (take n (placesInUse places))) × (r ≤ 15 * 1048576) ⌝ }
+{
+    let mut words: usize = 0;
+    let mut next: usize = 0;
+    while next < n {
+        let p = places[next];
+        words += table_words(p.s);
+        next += 1;
+    }
+    words
+}
+
+// The place of the table of length b, or 15 if there is none.
+pub fn place_of(places: [Place; 15], b: u32) -> usize
+    ensures { λ r. ⌜ PlaceOf b (placesInUse places) r ⌝ }
+{
+    let n = places_in_use(places);
+    let mut i: usize = 0;
+    while i < n {
+        let p = places[i];
+        if p.b == b {
+            return i;
+        }
+        i += 1;
+    }
+    15
+}
+
+// The words of the table of length b, a part of the annex itself; an empty part if there is no such table.
+pub fn part<'a>(annex: &'a [u32], places: [Place; 15], b: u32) -> &'a [u32]
+    requires { ⌜ (wordsTaken (placesInUse places) ≤ length (now annex)) × ((j : ℕ) → getD places j noPlace .s ≤ 20) ⌝ }
+    ensures words { λ r. ⌜ now r ≡ partIn b (placesInUse places) (now (annex .entry)) ⌝ }
+    ensures itself { λ r. ⌜ r .ptr .0 ≡ annex .entry .ptr .0 ⌝ }
+{
+    let i = place_of(places, b);
+    if 15 <= i {
+        return &annex[0..0];
+    }
+    let at = words_taken(places, i);
+    let p = places[i];
+    let end = at + table_words(p.s);
+    &annex[at..end]
+}
+
+// One more table. There must be room for it.
+pub fn with_place(mut places: [Place; 15], q: Place) -> [Place; 15]
+    requires { ⌜ (length (placesInUse places) < 15) × T (every zeroPlace (placesNotInUse places)) ⌝ }
+    ensures { λ r. ⌜ r ≡ fifteen (placesInUse places ++ (q ∷ [])) ⌝ }
+{
+    let n = places_in_use(places);
+    places[n] = q;
+    places
+}
+
+// Without the empty tables at the end.
+pub fn trimmed(mut places: [Place; 15]) -> [Place; 15]
+    requires { ⌜ T (every zeroPlace (placesNotInUse places)) ⌝ }
+    ensures { λ r. ⌜ r ≡ fifteen (trim (placesInUse places)) ⌝ }
+{
+    let mut i = places_in_use(places);
+    while 0 < i {
+        let p = places[i - 1];
+        if p.count != 0 {
+            return places;
+        }
+        places[i - 1] = Place {
+            b: 0,
+            s: 0,
+            count: 0,
+        };
+        i -= 1;
+    }
+    places
+}
+
+// Place i's count replaced.
+pub fn with_count(mut places: [Place; 15], i: usize, count: u32) -> [Place; 15]
+    requires { ⌜ i < 15 ⌝ }
+    ensures { λ r. ⌜ r ≡ set places i (record { b = getD places i noPlace .b; s = getD places i noPlace .s; count = count }) ⌝ }
+{
+    let p = places[i];
+    places[i] = Place {
+        b: p.b,
+        s: p.s,
+        count,
+    };
+    places
 }

@@ -1,0 +1,285 @@
+-- One step of each loop, and its end: what the definitions say at the code's place, by what its tests found there.
+use mathlib.Core.Path.{_≡_, refl, sym, ap, _∙_, subst}
+use mathlib.Core.Bool.{Bool, true, false, not, _&&_}
+use mathlib.Core.List.{List, [], _∷_, _++_}
+use Prim.Native.Nat.{ℕ, suc, _+_, _-_, _≤_, _<_, _^_}
+use native.Mathlib.Numerals.{add-one}
+use native.Mathlib.Omega.{arith}
+use lib.Dec.{T, leb}
+use lib.ListN.{length, getD, take, drop, set, drop-of-length-le}
+use lib.Seq.{drop-cons, take-suc, take-length, take-all, length-take-le}
+use borrow.Author.Tests.{eq-eqb, ne-eqb, le-leb, lt-leb}
+use Rattle.lists.specs.Lists.{within, every, front, behind}
+use Rattle.lists.proofs.Tests.{true-test}
+use Rattle.slots.specs.Numbers.{limit}
+use Rattle.directory.specs.declared.Place.{Place}
+use Rattle.directory.specs.Places.{noPlace, taken, placesInUse, placesNotInUse, placesRight, zeroPlace, directoryRight, wordsTaken, partIn, trim, fifteen}
+use Rattle.directory.specs.Lookup.{PlaceOf, other}
+use Rattle.directory.proofs.Front.{front-yes, front-no, behind-yes, behind-no, front-length, front-get, front-take, every-more}
+use Rattle.directory.proofs.Laws.{fifteen-in-use, fifteen-add, fifteen-drop, fifteen-last, words-append, words-cons, words-none, words-inside, part-none, part-at, trim-empty, trim-full}
+
+step : (ps : List Place) → length ps ≡ 15 → (i : ℕ) → i < 15 → drop i ps ≡ getD ps i noPlace ∷ drop (i + 1) ps
+step ps l i h = let k : i < length ps = omega arith in rw (add-one, drop-cons ps i noPlace)
+
+past : (ps : List Place) → length ps ≡ 15 → (i : ℕ) → 15 ≤ i → drop i ps ≡ []
+past ps l i h = let k : length ps ≤ i = omega arith in drop-of-length-le ps k
+
+is-taken : (p : Place) → (p .b ≡ 0 → ⊥) → taken p ≡ true
+is-taken p e = ap not (ne-eqb (p .b) 0 e)
+
+is-free : (p : Place) → p .b ≡ 0 → taken p ≡ false
+is-free p e = ap not (eq-eqb (p .b) 0 e)
+
+-- ---- places in use
+
+module _ (ps : List Place) (l : length ps ≡ 15) (i : ℕ) (inv : length (placesInUse ps) ≡ i + length (placesInUse (drop i ps))) where
+  module _ (h : i < 15) where
+    pub in-use-found : getD ps i noPlace .b ≡ 0 → i ≡ length (placesInUse ps)
+    in-use-found e =
+        let z : length (placesInUse (drop i ps)) ≡ 0
+        = ap (λ l. length (placesInUse l)) (step ps l i h) ∙ ap length (front-no taken (getD ps i noPlace) (drop (i + 1) ps) (is-free (getD ps i noPlace) e)) in
+        omega arith
+
+    pub in-use-again : (getD ps i noPlace .b ≡ 0 → ⊥) → length (placesInUse ps) ≡ i + 1 + length (placesInUse (drop (i + 1) ps))
+    in-use-again e =
+        let z : length (placesInUse (drop i ps)) ≡ suc (length (placesInUse (drop (i + 1) ps)))
+        = ap (λ l. length (placesInUse l)) (step ps l i h) ∙ ap length (front-yes taken (getD ps i noPlace) (drop (i + 1) ps) (is-taken (getD ps i noPlace) e)) in
+        omega arith
+
+  pub in-use-end : 15 ≤ i → i ≡ length (placesInUse ps)
+  unfolding front
+  in-use-end h =
+      let z : length (placesInUse (drop i ps)) ≡ 0 = ap (λ l. length (placesInUse l)) (past ps l i h) in
+      omega arith
+
+-- ---- right places
+
+module _ (k last : ℕ) (p : Place) where
+  pub right-1 : p .b ≤ last → false ≡ placesRight k last (p ∷ [])
+  unfolding placesRight
+  right-1 h₁ = let e : leb (last + 1) (p .b) ≡ false = lt-leb (last + 1) (p .b) (omega arith) in rw e
+
+  module _ (h₁ : last < p .b) where
+    e₁ : leb (last + 1) (p .b) ≡ true
+    e₁ = le-leb (last + 1) (p .b) (omega arith)
+
+    pub right-2 : k < p .b → false ≡ placesRight k last (p ∷ [])
+    unfolding placesRight
+    right-2 h₂ = rw (e₁, lt-leb (p .b) k h₂)
+
+    module _ (h₂ : p .b ≤ k) where
+      pub right-3 : p .s < 3 → false ≡ placesRight k last (p ∷ [])
+      unfolding placesRight
+      right-3 h₃ = rw (e₁, le-leb (p .b) k h₂, lt-leb 3 (p .s) h₃)
+
+      module _ (h₃ : 3 ≤ p .s) where
+        pub right-4 : p .b ≤ p .s → false ≡ placesRight k last (p ∷ [])
+        unfolding placesRight
+        right-4 h₄ = let e : leb (p .s) (p .b - 1) ≡ false = lt-leb (p .s) (p .b - 1) (omega arith) in rw (e₁, le-leb (p .b) k h₂, le-leb 3 (p .s) h₃, e)
+
+        pub right-5 : (m : ℕ) → p .s < p .b → m ≡ limit (p .s) → leb (p .count) m ≡ placesRight k last (p ∷ [])
+        unfolding placesRight
+        right-5 m h₄ e₅ =
+            let e : leb (p .s) (p .b - 1) ≡ true = le-leb (p .s) (p .b - 1) (omega arith) in
+            rw (e₁, le-leb (p .b) k h₂, le-leb 3 (p .s) h₃, e, ← e₅) (sym (and-true (leb (p .count) m)))
+          where
+            and-true : (t : Bool) → t && true ≡ t
+            and-true true = refl
+            and-true false = refl
+
+-- the rest are zero: `answer` is the test of those from i on
+module _ (ps : List Place) (l : length ps ≡ 15) (i : ℕ) (answer : Bool) (inv : answer ≡ every zeroPlace (drop i ps)) where
+  module _ (h : i < 15) (r : Bool) (e : r ≡ zeroPlace (getD ps i noPlace)) where
+    zero-step : answer ≡ r && every zeroPlace (drop (i + 1) ps)
+    unfolding every
+    zero-step = inv ∙ ap (every zeroPlace) (step ps l i h) ∙ ap (λ t. t && every zeroPlace (drop (i + 1) ps)) (sym e)
+
+    pub zero-no : r ≡ false → false ≡ answer
+    zero-no f = sym (zero-step ∙ ap (λ t. t && every zeroPlace (drop (i + 1) ps)) f)
+
+    pub zero-yes : r ≡ true → answer ≡ every zeroPlace (drop (i + 1) ps)
+    zero-yes f = zero-step ∙ ap (λ t. t && every zeroPlace (drop (i + 1) ps)) f
+
+  pub zero-end : 15 ≤ i → true ≡ answer
+  unfolding every
+  zero-end h = sym (inv ∙ ap (every zeroPlace) (past ps l i h))
+
+-- the directory from a place on, lengths above `last`
+abbrev pub rightFrom : ℕ → ℕ → List Place → Bool
+rightFrom k last ps = placesRight k last (placesInUse ps) && every zeroPlace (placesNotInUse ps)
+
+pub right-start : (k : ℕ) (ps : List Place) → directoryRight k ps ≡ rightFrom k 5 ps
+unfolding directoryRight
+right-start k ps = refl
+
+regroup : (a b c d e : Bool) → (a && (b && (c && d))) && e ≡ (a && (b && (c && true))) && (d && e)
+regroup true true true d e = refl
+regroup true true false d e = refl
+regroup true false c d e = refl
+regroup false b c d e = refl
+
+module _ (k last : ℕ) (ps : List Place) (l : length ps ≡ 15) (i : ℕ) (answer : Bool) (inv : answer ≡ rightFrom k last (drop i ps)) where
+  module _ (h : i < 15) (r : Bool) where
+    pub right-free : getD ps i noPlace .b ≡ 0 → r ≡ every zeroPlace (drop i ps) → r ≡ answer
+    unfolding placesRight
+    right-free e f =
+        let p = getD ps i noPlace in
+        let qs = drop (i + 1) ps in
+        let u : placesInUse (drop i ps) ≡ [] = ap placesInUse (step ps l i h) ∙ front-no taken p qs (is-free p e) in
+        let n : placesNotInUse (drop i ps) ≡ drop i ps = ap placesNotInUse (step ps l i h) ∙ behind-no taken p qs (is-free p e) ∙ sym (step ps l i h) in
+        f ∙ sym (inv ∙ ap (λ l. placesRight k last l && every zeroPlace (placesNotInUse (drop i ps))) u ∙ ap (every zeroPlace) n)
+
+    module _ (e : getD ps i noPlace .b ≡ 0 → ⊥) (f : r ≡ placesRight k last (getD ps i noPlace ∷ [])) where
+      right-step : answer ≡ r && rightFrom k (getD ps i noPlace .b) (drop (i + 1) ps)
+      unfolding placesRight
+      right-step =
+          let p = getD ps i noPlace in
+          let qs = drop (i + 1) ps in
+          let u : placesInUse (drop i ps) ≡ p ∷ placesInUse qs = ap placesInUse (step ps l i h) ∙ front-yes taken p qs (is-taken p e) in
+          let n : placesNotInUse (drop i ps) ≡ placesNotInUse qs = ap placesNotInUse (step ps l i h) ∙ behind-yes taken p qs (is-taken p e) in
+          inv
+          ∙ ap (λ l. placesRight k last l && every zeroPlace (placesNotInUse (drop i ps))) u
+          ∙ ap (λ l. placesRight k last (p ∷ placesInUse qs) && every zeroPlace l) n
+          ∙ regroup (within (last + 1) k (p .b)) (within 3 (p .b - 1) (p .s)) (leb (p .count) (limit (p .s))) (placesRight k (p .b) (placesInUse qs)) (every zeroPlace (placesNotInUse qs))
+          ∙ ap (λ t. t && rightFrom k (p .b) qs) (sym f)
+
+      pub right-no : r ≡ false → false ≡ answer
+      right-no g = sym (right-step ∙ ap (λ t. t && rightFrom k (getD ps i noPlace .b) (drop (i + 1) ps)) g)
+
+      pub right-yes : r ≡ true → answer ≡ rightFrom k (getD ps i noPlace .b) (drop (i + 1) ps)
+      right-yes g = right-step ∙ ap (λ t. t && rightFrom k (getD ps i noPlace .b) (drop (i + 1) ps)) g
+
+  pub right-end : 15 ≤ i → true ≡ answer
+  unfolding placesRight every front behind
+  right-end h = sym (inv ∙ ap (rightFrom k last) (past ps l i h))
+
+-- ---- words
+
+pub words-start : (ps : List Place) → 0 ≡ wordsTaken (take 0 ps)
+words-start ps = sym words-none
+
+module _ (ps : List Place) (n : ℕ) (k : n ≤ length (placesInUse ps)) (i words : ℕ) (inv : words ≡ wordsTaken (take i ps)) where
+  pub words-again : (z : ℕ) → i < n → z ≡ 2 ^ getD ps i noPlace .s → words + z ≡ wordsTaken (take (i + 1) ps)
+  words-again z h f =
+      let p = getD ps i noPlace in
+      let g : i < length ps = omega (arith, front-length taken ps) in
+      let t : wordsTaken (take (i + 1) ps) ≡ wordsTaken (take i ps ++ p ∷ []) = rw (add-one, take-suc ps i noPlace) in
+      let w : wordsTaken (take (i + 1) ps) ≡ words + (z + 0) = t ∙ words-append (take i ps) (p ∷ []) ∙ cc (words-cons p [], words-none) in
+      omega arith
+
+  pub words-end : i ≤ n → n ≤ i → words ≡ wordsTaken (take n (placesInUse ps))
+  words-end h g =
+      let f : i ≡ n = omega arith in
+      inv ∙ ap (λ (j : ℕ). wordsTaken (take j ps)) f ∙ sym (ap wordsTaken (front-take taken ps n k))
+
+-- ---- the place of a length
+
+pub place-start : (b : ℕ) (ps : List Place) → T (every (other b) (take 0 ps))
+unfolding every
+place-start b ps = tt
+
+module _ (b : ℕ) (ps : List Place) (n : ℕ) (m : n ≡ length (placesInUse ps)) (l : n ≤ 15) (i : ℕ) (t : T (every (other b) (take i (placesInUse ps)))) where
+  module _ (h : i < n) where
+    same-place : getD (placesInUse ps) i noPlace ≡ getD ps i noPlace
+    same-place = front-get taken ps i noPlace (omega arith)
+
+    pub place-found : getD ps i noPlace .b ≡ b → PlaceOf b (placesInUse ps) i
+    place-found e =
+        record { high = omega arith; others = t; inside = λ _. omega arith; found = λ _. sym (ap (λ (p : Place). p .b) same-place ∙ e) }
+
+    pub place-again : (getD ps i noPlace .b ≡ b → ⊥) → T (every (other b) (take (i + 1) (placesInUse ps)))
+    place-again e =
+        let q = getD (placesInUse ps) i noPlace in
+        let f : b ≡ q .b → ⊥ = λ d. e (sym (d ∙ ap (λ (p : Place). p .b) same-place)) in
+        rw add-one (every-more (other b) (placesInUse ps) i noPlace (omega arith) t (true-test (other b q) (ap not (ne-eqb b (q .b) f))))
+
+  pub place-none : n ≤ i → PlaceOf b (placesInUse ps) 15
+  place-none h =
+      let e : take i (placesInUse ps) ≡ take 15 (placesInUse ps)
+      = take-all i (placesInUse ps) (omega arith) ∙ sym (take-all 15 (placesInUse ps) (omega arith)) in
+      record { high = omega arith; others = subst (λ (q : List Place). T (every (other b) q)) e t; inside = λ z. absurd (omega arith); found = λ z. absurd (omega arith) }
+
+-- ---- a part
+
+module _ (b : ℕ) (ps : List Place) (i : ℕ) (w : PlaceOf b (placesInUse ps) i) where
+  pub place-low : i < 15 → i ≤ length (placesInUse ps)
+  place-low h = omega (arith, w .inside h)
+
+  pub part-nothing : (ws : List ℕ) → length ps ≡ 15 → 15 ≤ i → [] ≡ partIn b (placesInUse ps) ws
+  part-nothing ws l h =
+      let e : take i (placesInUse ps) ≡ placesInUse ps = take-all i (placesInUse ps) (omega (arith, front-length taken ps)) in
+      sym (part-none b (placesInUse ps) ws (subst (λ (q : List Place). T (every (other b) q)) e (w .others)))
+
+  module _ (ws : List ℕ) (h : i < 15) (at z : ℕ) (ea : at ≡ wordsTaken (take i (placesInUse ps))) (ez : z ≡ 2 ^ getD ps i noPlace .s) where
+    same-size : 2 ^ getD ps i noPlace .s ≡ 2 ^ getD (placesInUse ps) i noPlace .s
+    same-size = ap (λ (p : Place). 2 ^ p .s) (sym (front-get taken ps i noPlace (w .inside h)))
+
+    pub part-ends : wordsTaken (placesInUse ps) ≤ length ws → at + z ≤ length ws
+    part-ends l = omega (arith, words-inside (placesInUse ps) i (w .inside h), same-size)
+
+    pub part-found : take (at + z - at) (drop at ws) ≡ partIn b (placesInUse ps) ws
+    part-found =
+        let e : at + z - at ≡ 2 ^ getD (placesInUse ps) i noPlace .s = omega (arith, same-size) in
+        ap (λ (n : ℕ). take n (drop at ws)) e
+        ∙ ap (λ (n : ℕ). take (2 ^ getD (placesInUse ps) i noPlace .s) (drop n ws)) ea
+        ∙ sym (part-at b (placesInUse ps) i ws (w .inside h) (w .others) (w .found h))
+
+-- ---- one table more
+
+pub add-table : (ps : List Place) (q : Place) (n : ℕ) → length ps ≡ 15 → T (every zeroPlace (placesNotInUse ps)) → n ≡ length (placesInUse ps) → length (placesInUse ps) < 15
+    → set ps n q ≡ fifteen (placesInUse ps ++ (q ∷ []))
+add-table ps q n l t e h =
+    ap (λ (m : ℕ). set ps m q) e ∙ ap (λ (x : List Place). set x (length (placesInUse ps)) q) (sym (fifteen-in-use ps l t)) ∙ fifteen-add (placesInUse ps) h q
+
+-- ---- empty tables at the end
+
+-- what is left of the tables us when the places from i on are dropped
+pub record Left (us ps : List Place) (i : ℕ) : Type 0 where
+  pub high : i ≤ length us
+  pub places : ps ≡ fifteen (take i us)
+  pub tables : trim us ≡ trim (take i us)
+
+pub left-start : (ps : List Place) (i : ℕ) → length ps ≡ 15 → T (every zeroPlace (placesNotInUse ps)) → i ≡ length (placesInUse ps) → Left (placesInUse ps) ps i
+left-start ps i l t e =
+    let f : take i (placesInUse ps) ≡ placesInUse ps = ap (λ (n : ℕ). take n (placesInUse ps)) e ∙ take-length (placesInUse ps) in
+    record { high = omega arith; places = sym (fifteen-in-use ps l t) ∙ ap fifteen (sym f); tables = ap trim (sym f) }
+
+module _ (us ps : List Place) (i : ℕ) (c : Left us ps i) (l : i ≤ 15) (h : 0 < i) where
+  last : Place
+  last = getD us (i - 1) noPlace
+
+  one : take i us ≡ take (i - 1) us ++ last ∷ []
+  unfolding last
+  one = let e : i ≡ suc (i - 1) = omega arith in ap (λ (n : ℕ). take n us) e ∙ take-suc us (i - 1) noPlace (omega arith)
+
+  long : length (take (i - 1) us) ≡ i - 1
+  long = length-take-le (i - 1) us (omega arith)
+
+  is-last : getD ps (i - 1) noPlace ≡ last
+  is-last =
+      ap (λ (q : List Place). getD q (i - 1) noPlace) (c .places ∙ ap fifteen one)
+      ∙ ap (λ (n : ℕ). getD (fifteen (take (i - 1) us ++ last ∷ [])) n noPlace) (sym long)
+      ∙ fifteen-last (take (i - 1) us) (omega (arith, long)) last
+
+  pub left-stop : (getD ps (i - 1) noPlace .count ≡ 0 → ⊥) → ps ≡ fifteen (trim us)
+  left-stop n =
+      let f : last .count ≡ 0 → ⊥ = λ q. n (ap (λ (p : Place). p .count) is-last ∙ q) in
+      let k : trim us ≡ take i us = c .tables ∙ ap trim one ∙ trim-full (take (i - 1) us) last f ∙ sym one in
+      c .places ∙ ap fifteen (sym k)
+
+  pub left-again : getD ps (i - 1) noPlace .count ≡ 0 → Left us (set ps (i - 1) noPlace) (i - 1)
+  left-again e =
+      let f : last .count ≡ 0 = sym (ap (λ (p : Place). p .count) is-last) ∙ e in
+      let s : set ps (i - 1) noPlace ≡ fifteen (take (i - 1) us)
+      = ap (λ (q : List Place). set q (i - 1) noPlace) (c .places ∙ ap fifteen one)
+      ∙ ap (λ (n : ℕ). set (fifteen (take (i - 1) us ++ last ∷ [])) n noPlace) (sym long)
+      ∙ fifteen-drop (take (i - 1) us) (omega (arith, long)) last in
+      record { high = omega arith; places = s; tables = c .tables ∙ ap trim one ∙ trim-empty (take (i - 1) us) last f }
+
+pub left-end : (us ps : List Place) (i : ℕ) → Left us ps i → i ≤ 0 → ps ≡ fifteen (trim us)
+unfolding trim
+left-end us ps i c h =
+    let e : i ≡ 0 = omega arith in
+    let f : take i us ≡ [] = ap (λ (n : ℕ). take n us) e in
+    let k : trim us ≡ [] = c .tables ∙ ap trim f in
+    c .places ∙ ap fifteen (f ∙ sym k)

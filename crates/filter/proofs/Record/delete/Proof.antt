@@ -1,0 +1,93 @@
+-- The longest match is a void or has bits, or there is none.
+use mathlib.Core.Path.{sym, ap, _∙_}
+use Rattle.slots.specs.Payload.{void}
+use Rattle.filter.specs.Plain.{plain}
+use Rattle.filter.proofs.Outcomes.{first-right}
+use Rattle.filter.proofs.Quicks.{bounds-of, walk, found-matched}
+use Rattle.filter.proofs.Takes.{chosen}
+use Rattle.filter.proofs.Deletes.{delete-refused, delete-6}
+use borrow.Author.Needs.{needs}
+use Rattle.filter.proofs.Record.delete.Statement.{statement}
+use Rattle.filter.proofs.Record.delete.Tie as tie
+
+first-number-requires : tie.Need-first-number-requires
+first-number-requires c κs = search needs
+
+returns : tie.Need-returns
+returns c = delete-refused (plain (c .before .before .before .before .before .args .self)) (c .before .before .before .before .before .args .main .now) (c .before .before .before .before .before .args .queue .now) (c .before .before .before .before .before .args .annex .now) (c .before .before .before .before .before .args .hash) _ (c .before .first-number .ensures) (c .if1 .taken)
+
+width-requires : tie.Need-width-requires
+width-requires c κs = first-right (plain (c .before .before .before .before .before .args .self)) _ _ _ (sym (c .before .first-number .ensures) ∙ c .if1 .left) .0
+
+canonical-requires : tie.Need-canonical-requires
+canonical-requires c κs = bounds-of (plain (c .before .before .before .before .before .before .args .self)) (c .before .before .before .before .before .before .args .main .now) (c .before .before .before .before .before .before .args .queue .now) (c .before .before .before .before .before .before .args .annex .now) (sym (c .before .if1 .left) ∙ c .before .before .first-number .ensures) .k-20
+
+cast-c : tie.Need-cast-c
+cast-c c = search needs
+
+first-match-requires : tie.Need-first-match-requires
+first-match-requires c κs = let v = walk (plain (c .before .before .before .before .before .before .before .before .args .self)) (c .before .before .before .before .before .before .before .before .args .main .now) (c .before .before .before .before .before .before .before .before .args .queue .now) (c .before .before .before .before .before .before .before .before .args .annex .now) (sym (c .before .before .before .if1 .left) ∙ c .before .before .before .before .first-number .ensures) _ _ (c .before .canonical .ensures .1) (c .before .before .width .ensures .0) in
+    (v .inside, v .most, v .more, v .wide, v .tall)
+
+void-of-requires : tie.Need-void-of-requires
+void-of-requires c κs = search needs
+
+delete-void-requires : tie.Need-delete-void-requires
+delete-void-requires c κs = (chosen (plain (c .before .before .before .before .before .before .before .before .before .before .before .before .before .before .before .args .self)) (c .before .before .before .before .before .before .before .before .before .before .before .before .before .before .before .args .main .now) (c .before .before .before .before .before .before .before .before .before .before .before .before .before .before .before .args .queue .now) (c .before .before .before .before .before .before .before .before .before .before .before .before .before .before .before .args .annex .now) (c .before .before .before .before .before .before .before .before .before .before .before .before .before .before .before .args .hash) (sym (c .before .before .before .before .before .before .before .before .before .before .if1 .left) ∙ c .before .before .before .before .before .before .before .before .before .before .before .first-number .ensures) _ _ (c .before .before .before .before .before .before .before .before .canonical .ensures .0) (c .before .before .before .before .before .before .before .before .before .width .ensures .0) _ _ (c .before .before .before .before .before .before .first-match .ensures) (c .before .before .before .before .before .if2 .taken), c .before .before .before .if3 .taken ∙ c .before .before .before .before .void-of .ensures ∙ ap void (c .before .before .before .before .before .before .before .before .before .width .ensures .0))
+
+same-length : tie.Need-same-length
+same-length c = search needs
+
+same-length-2 : tie.Need-same-length-2
+same-length-2 c = search needs
+
+same-length-3 : tie.Need-same-length-3
+same-length-3 c = search needs
+
+returns-2 : tie.Need-returns-2
+returns-2 c = search needs
+
+delete-bits-requires : tie.Need-delete-bits-requires
+delete-bits-requires c κs = (chosen (plain (c .before .before .before .before .before .before .before .before .before .before .before .before .before .before .before .args .self)) (c .before .before .before .before .before .before .before .before .before .before .before .before .before .before .before .args .main .now) (c .before .before .before .before .before .before .before .before .before .before .before .before .before .before .before .args .queue .now) (c .before .before .before .before .before .before .before .before .before .before .before .before .before .before .before .args .annex .now) (c .before .before .before .before .before .before .before .before .before .before .before .before .before .before .before .args .hash) (sym (c .before .before .before .before .before .before .before .before .before .before .if1 .left) ∙ c .before .before .before .before .before .before .before .before .before .before .before .first-number .ensures) _ _ (c .before .before .before .before .before .before .before .before .canonical .ensures .0) (c .before .before .before .before .before .before .before .before .before .width .ensures .0) _ _ (c .before .before .before .before .before .before .first-match .ensures) (c .before .before .before .before .before .if2 .taken), λ e. c .before .before .before .if3 .left (e ∙ sym (c .before .before .before .before .void-of .ensures ∙ ap void (c .before .before .before .before .before .before .before .before .before .width .ensures .0))))
+
+same-length-4 : tie.Need-same-length-4
+same-length-4 c = search needs
+
+same-length-5 : tie.Need-same-length-5
+same-length-5 c = search needs
+
+same-length-6 : tie.Need-same-length-6
+same-length-6 c = search needs
+
+returns-3 : tie.Need-returns-3
+returns-3 c = search needs
+
+same-length-7 : tie.Need-same-length-7
+same-length-7 c = search needs
+
+returns-4 : tie.Need-returns-4
+returns-4 c = delete-6 (plain (c .before .before .before .before .before .before .before .before .before .before .args .self)) (c .before .before .before .before .before .before .before .before .before .before .args .main .now) (c .before .before .before .before .before .before .before .before .before .before .args .queue .now) (c .before .before .before .before .before .before .before .before .before .before .args .annex .now) (c .before .before .before .before .before .before .before .before .before .before .args .hash) (sym (c .before .before .before .before .before .if1 .left) ∙ c .before .before .before .before .before .before .first-number .ensures) _ (found-matched (plain (c .before .before .before .before .before .before .before .before .before .before .args .self)) (c .before .before .before .before .before .before .before .before .before .before .args .main .now) (c .before .before .before .before .before .before .before .before .before .before .args .queue .now) (c .before .before .before .before .before .before .before .before .before .before .args .annex .now) (c .before .before .before .before .before .before .before .before .before .before .args .hash) _ _ (c .before .before .before .canonical .ensures .0) (c .before .before .before .before .width .ensures .0) _ _ (c .before .first-match .ensures)) (c .if2 .left)
+
+pub delete-spec : {M : Type 1} → statement M
+delete-spec =
+    tie.close
+    (tie.spec
+    first-number-requires
+    returns
+    width-requires
+    canonical-requires
+    cast-c
+    first-match-requires
+    void-of-requires
+    delete-void-requires
+    same-length
+    same-length-2
+    same-length-3
+    returns-2
+    delete-bits-requires
+    same-length-4
+    same-length-5
+    same-length-6
+    returns-3
+    same-length-7
+    returns-4)

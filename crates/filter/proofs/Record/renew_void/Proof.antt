@@ -1,0 +1,77 @@
+-- The same for a void, where the queue has room for its word.
+use mathlib.Core.Path.{refl}
+use native.Mathlib.Omega.{arith}
+use Rattle.rules.specs.Record.{change}
+use Rattle.filter.specs.Plain.{plain}
+use Rattle.filter.proofs.Quicks.{bounds-of}
+use Rattle.filter.proofs.Takes.{place}
+use Rattle.filter.proofs.Renews.{renew-full, renew-lent, renew-none, renew-void, fresh-small}
+use borrow.Author.Needs.{needs}
+use Rattle.filter.proofs.Record.renew_void.Statement.{statement}
+use Rattle.filter.proofs.Record.renew_void.Tie as tie
+
+cast-q : tie.Need-cast-q
+cast-q c = search needs
+
+returns : tie.Need-returns
+returns c = renew-full (plain (c .before .before .before .before .args .self)) (c .before .before .before .before .args .main .now) (c .before .before .before .before .args .queue .now) (c .before .before .before .before .args .annex .now) (c .before .before .before .before .args .hash) _ _ (c .before .before .before .before .pre .0) _ (c .before .before .before .before .pre .2) (c .before .before .before .before .pre .1) (c .if1 .taken)
+
+returns-2 : tie.Need-returns-2
+returns-2 c = renew-lent (plain (c .before .before .before .before .before .args .self)) (c .before .before .before .before .before .args .main .now) (c .before .before .before .before .before .args .queue .now) (c .before .before .before .before .before .args .annex .now) (c .before .before .before .before .before .args .hash) _ _ (c .before .before .before .before .before .pre .0) _ (c .before .before .before .before .before .pre .2) (c .before .before .before .before .before .pre .1) (c .if2 .taken)
+
+exchange-requires : tie.Need-exchange-requires
+exchange-requires c κs = let v = place (plain (c .before .before .before .before .before .before .args .self)) (c .before .before .before .before .before .before .args .main .now) (c .before .before .before .before .before .before .args .queue .now) (c .before .before .before .before .before .before .args .annex .now) (c .before .before .before .before .before .before .args .hash) _ _ (c .before .before .before .before .before .before .pre .0) in (v .inside, v .most, v .more, fresh-small (plain (c .before .before .before .before .before .before .args .self)) (c .before .before .before .before .before .before .args .main .now) (c .before .before .before .before .before .before .args .queue .now) (c .before .before .before .before .before .before .args .annex .now) (c .before .before .before .before .before .before .args .hash) _ _ (c .before .before .before .before .before .before .pre .0) _ (c .before .before .before .before .before .before .pre .2))
+
+cast-queue : tie.Need-cast-queue
+cast-queue c = let v = place (plain (c .before .before .before .before .before .before .before .before .before .before .args .self)) (c .before .before .before .before .before .before .before .before .before .before .args .main .now) (c .before .before .before .before .before .before .before .before .before .before .args .queue .now) (c .before .before .before .before .before .before .before .before .before .before .args .annex .now) (c .before .before .before .before .before .before .before .before .before .before .args .hash) _ _ (c .before .before .before .before .before .before .before .before .before .before .pre .0) in omega (arith, v .slots)
+
+mul-queue : tie.Need-mul-queue
+mul-queue c = let v = place (plain (c .before .before .before .before .before .before .before .before .before .before .args .self)) (c .before .before .before .before .before .before .before .before .before .before .args .main .now) (c .before .before .before .before .before .before .before .before .before .before .args .queue .now) (c .before .before .before .before .before .before .before .before .before .before .args .annex .now) (c .before .before .before .before .before .before .before .before .before .before .args .hash) _ _ (c .before .before .before .before .before .before .before .before .before .before .pre .0) in omega (arith, v .slots)
+
+add-queue : tie.Need-add-queue
+add-queue c = let v = place (plain (c .before .before .before .before .before .before .before .before .before .before .args .self)) (c .before .before .before .before .before .before .before .before .before .before .args .main .now) (c .before .before .before .before .before .before .before .before .before .before .args .queue .now) (c .before .before .before .before .before .before .before .before .before .before .args .annex .now) (c .before .before .before .before .before .before .before .before .before .before .args .hash) _ _ (c .before .before .before .before .before .before .before .before .before .before .pre .0) in omega (arith, v .slots)
+
+mul-queue-2 : tie.Need-mul-queue-2
+mul-queue-2 c = search needs
+
+slice-write-queue : tie.Need-slice-write-queue
+slice-write-queue c = let v = place (plain (c .before .before .before .before .before .before .before .before .before .before .args .self)) (c .before .before .before .before .before .before .before .before .before .before .args .main .now) (c .before .before .before .before .before .before .before .before .before .before .args .queue .now) (c .before .before .before .before .before .before .before .before .before .before .args .annex .now) (c .before .before .before .before .before .before .before .before .before .before .args .hash) _ _ (c .before .before .before .before .before .before .before .before .before .before .pre .0) in let n = c .before .before .before .before .before .if2 .left in omega (arith, v .queued, n)
+
+add-self : tie.Need-add-self
+add-self c = let b = bounds-of (plain (c .before .before .before .before .before .before .before .before .before .before .args .self)) (c .before .before .before .before .before .before .before .before .before .before .args .main .now) (c .before .before .before .before .before .before .before .before .before .before .args .queue .now) (c .before .before .before .before .before .before .before .before .before .before .args .annex .now) (c .before .before .before .before .before .before .before .before .before .before .pre .0 .lent) in omega (arith, b .queued-small)
+
+same-length : tie.Need-same-length
+same-length c = search needs
+
+same-length-2 : tie.Need-same-length-2
+same-length-2 c = search needs
+
+returns-3 : tie.Need-returns-3
+unfolding change
+returns-3 c = renew-void (plain (c .before .before .before .before .before .before .before .before .before .before .args .self)) (c .before .before .before .before .before .before .before .before .before .before .args .main .now) (c .before .before .before .before .before .before .before .before .before .before .args .queue .now) (c .before .before .before .before .before .before .before .before .before .before .args .annex .now) (c .before .before .before .before .before .before .before .before .before .before .args .hash) _ _ (c .before .before .before .before .before .before .before .before .before .before .pre .0) _ (c .before .before .before .before .before .before .before .before .before .before .pre .2) (c .before .before .before .before .before .before .before .before .before .before .pre .1) _ _ _ (c .before .before .before .exchange .ensures) (c .if3 .taken) refl (c .before .before .before .before .before .before .if1 .left) (c .before .before .before .before .before .if2 .left)
+
+same-length-3 : tie.Need-same-length-3
+same-length-3 c = search needs
+
+returns-4 : tie.Need-returns-4
+returns-4 c = renew-none (plain (c .before .before .before .before .before .before .before .before .before .before .args .self)) (c .before .before .before .before .before .before .before .before .before .before .args .main .now) (c .before .before .before .before .before .before .before .before .before .before .args .queue .now) (c .before .before .before .before .before .before .before .before .before .before .args .annex .now) (c .before .before .before .before .before .before .before .before .before .before .args .hash) _ _ (c .before .before .before .before .before .before .before .before .before .before .pre .0) _ (c .before .before .before .before .before .before .before .before .before .before .pre .2) _ _ (c .before .before .before .exchange .ensures) (c .if3 .left)
+
+pub renew-void-spec : {M : Type 1} → statement M
+renew-void-spec =
+    tie.close
+    (tie.spec
+    cast-q
+    returns
+    returns-2
+    exchange-requires
+    cast-queue
+    mul-queue
+    add-queue
+    mul-queue-2
+    slice-write-queue
+    add-self
+    same-length
+    same-length-2
+    returns-3
+    same-length-3
+    returns-4)

@@ -1,0 +1,3 @@
+-- How the code's record is read, and what the calls' contracts say.
+pub mod Plain
+pub mod Contracts

@@ -1,0 +1,24 @@
+-- Every accepted call keeps a sound state sound.
+pub mod Refusals
+pub mod Holds
+pub mod State
+pub mod Audits
+pub mod Bounds
+pub mod Entries
+pub mod Edits
+pub mod Quick
+pub mod Done
+pub mod Annex
+pub mod Mothers
+pub mod Take
+pub mod Parts
+pub mod Cuts
+pub mod Settle
+pub mod Halves
+pub mod Hashes
+pub mod NewTable
+pub mod Double
+pub mod Doubled
+pub mod Start
+pub mod Lengths
+pub mod Refused

@@ -1,0 +1,2 @@
+-- The laws of the walks over bytes.
+pub mod Bytes

@@ -1,0 +1,3 @@
+-- Laws of the walk from slot to slot, and of what moves to the left.
+mod Wraps
+mod Closers
