@@ -9,9 +9,9 @@ use Rattle.slots.specs.Payload.{lengthOf}
 use Rattle.rules.specs.Record.{Filter, change, fresh, width}
 use Rattle.rules.specs.Refusals.{refusal, recordRight, slicesRight}
 use Rattle.rules.specs.Sound.{sound}
-use Rattle.rules.specs.Calls.{Outcome, refused, start}
+use Rattle.rules.specs.Calls.{Outcome, start}
 use Rattle.rules.specs.Quick.{home, matched, best, freshEntry, queryNumber, insert, insertNumber, delete, rejuvenate}
-use Rattle.rules.specs.Slow.{audit, settle, double, secondMain}
+use Rattle.rules.specs.Slow.{settle, double, secondMain}
 
 -- the number as far as 2 and 3 go, by the record and the lengths of main, queue and annex
 unfoldable pub firstNumber : Filter → ℕ → ℕ → ℕ → ℕ
@@ -54,10 +54,6 @@ Deletes r main queue annex h = Quick (delete r main queue annex h) (queryNumber 
 
 abbrev pub Rejuvenates : Filter → List ℕ → List ℕ → List ℕ → ℕ → ℕ → Filter → List ℕ → List ℕ → List ℕ → Type 0
 Rejuvenates r main queue annex h = Quick (rejuvenate r main queue annex h) (queryNumber r main queue annex) (sound r main queue annex) r main queue annex
-
--- Audit changes nothing, and answers its number
-abbrev pub Audits : Filter → List ℕ → List ℕ → List ℕ → ℕ → Filter → List ℕ → List ℕ → List ℕ → Type 0
-Audits r main queue annex = Leaves (refused r main queue annex (audit r main queue annex))
 
 abbrev pub Settles : Filter → List ℕ → List ℕ → List ℕ → ℕ → Filter → List ℕ → List ℕ → List ℕ → Type 0
 Settles r main queue annex = Leaves (settle r main queue annex)

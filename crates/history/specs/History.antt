@@ -94,11 +94,11 @@ pub record Started (s : Words) : Type 0 where
   pub leaves : s ≡ left (start power f regime main queue annex)
 
 -- a call with this outcome is accepted and leaves t
-abbrev pub Leaves : Outcome → Words → Type 0
-Leaves o t = (o .number ≡ 0) × (t ≡ left o)
+abbrev pub AcceptedBy : Outcome → Words → Type 0
+AcceptedBy o t = (o .number ≡ 0) × (t ≡ left o)
 
 -- the same for Double, which is lent a second main: afterwards that is the main
-pub record Doubles (s t : Words) : Type 0 where
+pub record AcceptedDouble (s t : Words) : Type 0 where
   pub second : List ℕ
   pub accepted : double (s .rec) (s .main) (s .queue) (s .annex) (length second) .number ≡ 0
   pub leaves : t
@@ -112,12 +112,12 @@ pub record Doubles (s t : Words) : Type 0 where
 -- an accepted call on the words s leaves the words t
 unfoldable pub Accepted : Call → Words → Words → Type 0
 Accepted (Query h) s t = (queryNumber (s .rec) (s .main) (s .queue) (s .annex) ≡ 0) × (t ≡ s)
-Accepted (Insert h) s t = Leaves (insert (s .rec) (s .main) (s .queue) (s .annex) h) t
-Accepted (Delete h) s t = Leaves (delete (s .rec) (s .main) (s .queue) (s .annex) h) t
-Accepted (Rejuvenate h) s t = Leaves (rejuvenate (s .rec) (s .main) (s .queue) (s .annex) h) t
+Accepted (Insert h) s t = AcceptedBy (insert (s .rec) (s .main) (s .queue) (s .annex) h) t
+Accepted (Delete h) s t = AcceptedBy (delete (s .rec) (s .main) (s .queue) (s .annex) h) t
+Accepted (Rejuvenate h) s t = AcceptedBy (rejuvenate (s .rec) (s .main) (s .queue) (s .annex) h) t
 Accepted Audit s t = (audit (s .rec) (s .main) (s .queue) (s .annex) ≡ 0) × (t ≡ s)
-Accepted Settle s t = Leaves (settle (s .rec) (s .main) (s .queue) (s .annex)) t
-Accepted Double s t = Doubles s t
+Accepted Settle s t = AcceptedBy (settle (s .rec) (s .main) (s .queue) (s .annex)) t
+Accepted Double s t = AcceptedDouble s t
 
 -- Between calls the caller may lend another queue and annex, as after a refusal by 7 or 10, in which the words in use are the same; their lengths may differ
 pub record Lends (s t : Words) : Type 0 where
