@@ -8,3 +8,4 @@ pub mod Deletes
 pub mod Renews
 pub mod Starts
 pub mod Parts
+pub mod Audits

@@ -7,6 +7,7 @@ ghost use Rattle.directory.specs.Places.{noPlace};
 ghost use Rattle.rules.specs.Record.{fresh, width, allZero};
 ghost use Rattle.rules.specs.Refusals.{settingsRight, recordRight, slicesRight};
 ghost use Rattle.rules.specs.Quick.{query};
+ghost use Rattle.rules.specs.Slow.{audit};
 ghost use Rattle.rules.specs.Lookups.{part};
 ghost use Rattle.filter.specs.Plain.{plain};
 ghost use Rattle.slots.specs.Payload.{void};
@@ -73,7 +74,7 @@ impl Record {
     {
         if self.in_range() {
             if self.lent_right(main, queue, annex) {
-                return 0;
+                return 0; // neither
             }
             return 3;
         }
@@ -391,6 +392,22 @@ impl Record {
             number: 6, // nothing to rejuvenate
             rec: self,
         }
+    }
+
+    pub fn audit(self, main: &[u32], queue: &[u32], annex: &[u32]) -> u32
+        ensures { λ a. ⌜ a ≡ audit (plain self) (now (main .entry)) (now (queue .entry)) (now (annex .entry)) ⌝ }
+    {
+        let n = self.first_number(main.len(), queue.len(), annex.len());
+        if n != 0 {
+            return n;
+        }
+        let w = self.width();
+        let queued = self.queued as usize;
+        let dir = self.dir;
+        if audit::state_right(main, self.used, self.k, w, queue, queued, dir, annex) {
+            return 0;
+        }
+        4
     }
 
     // The words of the annex table of length b, a part of the annex itself, or an empty part.

@@ -1,0 +1,2 @@
+-- Laws of the whole state.
+pub mod Wholes

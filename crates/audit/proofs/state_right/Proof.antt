@@ -1,0 +1,54 @@
+-- Each test answers for what is left of the state, and the last for the counts.
+use mathlib.Core.Path.{sym}
+use lib.Seq.{length-take-le}
+use borrow.Author.Needs.{needs}
+use Rattle.counts.proofs.InUse.{directory-20}
+use Rattle.counts.proofs.Stored.{power-20, room-1}
+use Rattle.audit.proofs.Wholes.{below-limit, part-small, so-laid, no-table, no-annex, no-queue, all-counts}
+use Rattle.audit.proofs.state_right.Statement.{statement}
+use Rattle.audit.proofs.state_right.Tie as tie
+
+main-spans-requires : tie.Need-main-spans-requires
+main-spans-requires c κs = search needs
+
+is-table-requires : tie.Need-is-table-requires
+is-table-requires c κs = (search (needs, below-limit), search (needs, room-1), search (needs, power-20))
+
+annex-right-requires : tie.Need-annex-right-requires
+annex-right-requires c κs = (search (needs, directory-20), search needs)
+
+slice-aggregate-words : tie.Need-slice-aggregate-words
+slice-aggregate-words c = sym (length-take-le _ _ (search needs))
+
+queue-right-requires : tie.Need-queue-right-requires
+queue-right-requires c κs = search needs
+
+counts-right-requires : tie.Need-counts-right-requires
+counts-right-requires c κs = (search (needs, so-laid), search (needs, room-1), search (needs, power-20), search needs, search needs, search (needs, part-small), search (needs, directory-20), search needs)
+
+returns : tie.Need-returns
+returns c = search (needs, all-counts)
+
+returns-2 : tie.Need-returns-2
+returns-2 c = search (needs, no-queue)
+
+returns-3 : tie.Need-returns-3
+returns-3 c = search (needs, no-annex)
+
+returns-4 : tie.Need-returns-4
+returns-4 c = search (needs, no-table)
+
+pub state-right-spec : {M : Type 1} → statement M
+state-right-spec =
+    tie.close
+    (tie.spec
+    main-spans-requires
+    is-table-requires
+    annex-right-requires
+    slice-aggregate-words
+    queue-right-requires
+    counts-right-requires
+    returns
+    returns-2
+    returns-3
+    returns-4)

@@ -1,0 +1,166 @@
+-- From address to address and from block to block: with the carry of the address in hand the code reads its run, and the next carry follows from the run's length.
+use mathlib.Core.Path.{_≡_, refl, sym, ap, ap₂, _∙_}
+use mathlib.Core.Bool.{Bool, true, false, _&&_}
+use mathlib.Core.List.{List, []}
+use Prim.Native.Nat.{ℕ, suc, _+_, _-_, _*_, _%_, _≤_, _<_}
+use native.Mathlib.Omega.{arith}
+use native.Mathlib.Nat.{mod-eq-of-lt}
+use native.Mathlib.Numerals.{add-one}
+use lib.Dec.{eqb}
+use lib.ListN.{length, drop, getD}
+use lib.Seq.{drop-cons}
+use Rattle.lists.specs.Lists.{every, mapAt}
+use Rattle.lists.specs.Runs.{Runs, count, total}
+use Rattle.lists.proofs.Tests.{no-true}
+use Rattle.slots.specs.Payload.{tombstone, void}
+use Rattle.layout.specs.Decode.{decode, placeOf}
+use Rattle.layout.specs.Document.{carry}
+use Rattle.layout.proofs.Same.{place-of}
+use Rattle.layout.proofs.Puts.{layout-length, run-room}
+use Rattle.rules.specs.Tables.{Table, mothersOf}
+use Rattle.rules.specs.Sound.{naming, addressRight}
+use Rattle.sound.specs.Reading.{Laid, readAt}
+use Rattle.counts.specs.Tally.{Tallied}
+use Rattle.counts.specs.Blocks.{rightFrom, Block}
+use Rattle.sound.proofs.Readings.{run-read}
+
+-- i addresses from `from` on are right, and k entries wait on arrival at the next, c
+pub record Stand (f : ℕ → List ℕ → Bool) (words : List ℕ) (from c k : ℕ) : Type 0 where
+  pub here : c < length words → k ≡ carry (decode words) c
+  pub gone : rightFrom f from (decode words) ≡ rightFrom f c (decode words)
+
+pub stand-carry : (f : ℕ → List ℕ → Bool) (words : List ℕ) (from c k : ℕ) → Stand f words from c k → c < length words → k ≡ carry (decode words) c
+stand-carry f words from c k s h = s .here h
+
+module _ (words : List ℕ) (p : Laid words) where
+  same-size : length (decode words) ≡ length words
+  same-size = sym (layout-length (decode words)) ∙ ap length (sym (p .is))
+
+  small : total (decode words) < length (decode words)
+  small = omega (arith, p .small, same-size)
+
+  module _ (c k : ℕ) (hc : c < length words) where
+    in-runs : c < length (decode words)
+    in-runs = omega (arith, same-size)
+
+    carry-is : k ≡ placeOf words c → k ≡ carry (decode words) c
+    carry-is e = e ∙ ap (λ (l : List ℕ). placeOf l c) (p .is) ∙ place-of (decode words) c in-runs small
+
+    module _ (ek : k ≡ carry (decode words) c) where
+      carry-small : k < length words
+      carry-small = omega (arith, p .small, run-room (decode words) c in-runs small)
+
+      read-is : readAt words c k ≡ getD (decode words) c []
+      read-is = ap (λ (l : List ℕ). readAt l c k) (p .is) ∙ run-read (decode words) c in-runs small k ek
+
+      next-carry : (k′ : ℕ) → k′ ≡ k + length (readAt words c k) - 1 → c + 1 < length words → k′ ≡ carry (decode words) (c + 1)
+      next-carry k′ e h =
+          let runs = decode words in
+          let m : c % length runs ≡ c = mod-eq-of-lt in-runs in
+          let l : suc c < length runs = omega (arith, same-size) in
+          let s : suc c % length runs ≡ suc c = mod-eq-of-lt l in
+          rw (add-one c)
+          (e ∙ ap₂ (λ (a : ℕ) (r : List ℕ). a + length r - 1) ek read-is
+          ∙ sym (ap (carry runs) (sym s) ∙ Rattle.layout.proofs.Same.carry-next runs c small ∙ ap (λ (j : ℕ). carry runs j + length (getD runs j []) - 1) m))
+
+      -- the code's test of the address
+      test-is : (w : ℕ) (ts : List Table) (ws : List ℕ) (good : Bool) (named even : ℕ) → named ≡ naming c ws → even ≡ count (c * 2) ws
+          → good ≡ (eqb (count (tombstone w) (readAt words c k)) even && eqb (count (void w) (readAt words c k)) (mothersOf c ts - named))
+          → good ≡ addressRight w ts ws c (getD (decode words) c [])
+      unfolding addressRight
+      test-is w ts ws good named even en ee eg =
+          let r = getD (decode words) c [] in
+          eg ∙ ap (λ (b : List ℕ). eqb (count (tombstone w) b) even && eqb (count (void w) b) (mothersOf c ts - named)) read-is
+          ∙ ap₂ (λ (x y : ℕ). eqb (count (tombstone w) r) x && eqb (count (void w) r) (mothersOf c ts - y)) ee en
+
+  module _ (f : ℕ → List ℕ → Bool) where
+    one-more : (c : ℕ) (good : Bool) → c < length words → good ≡ f c (getD (decode words) c [])
+        → rightFrom f c (decode words) ≡ (good && rightFrom f (c + 1) (decode words))
+    unfolding rightFrom every mapAt
+    one-more c good hc g =
+        let runs = decode words in
+        ap (λ (l : Runs). every (λ (b : Bool). b) (mapAt f c l)) (drop-cons runs c [] (in-runs c 0 hc))
+        ∙ ap₂ (λ (b : Bool) (j : ℕ). b && every (λ (b : Bool). b) (mapAt f j (drop j runs))) (sym g) (sym (add-one c))
+
+    right-out : (c : ℕ) → length words ≤ c → rightFrom f c (decode words) ≡ true
+    unfolding rightFrom every mapAt
+    right-out c h =
+        ap (λ (l : Runs). every (λ (b : Bool). b) (mapAt f c l)) (lib.ListN.drop-of-length-le (decode words) {i = c} (omega (arith, same-size)))
+
+-- ---- the addresses of a block
+
+module _ (words ws : List ℕ) (w : ℕ) (ts : List Table) (base : ℕ) (p : Laid words) where
+  pub stand-start : (k : ℕ) → k ≡ carry (decode words) base → Stand (addressRight w ts ws) words base (base + 0) k
+  stand-start k e =
+      let z : base ≡ base + 0 = omega arith in
+      record { here = λ h. e ∙ ap (carry (decode words)) z; gone = ap (λ (c : ℕ). rightFrom (addressRight w ts ws) c (decode words)) z }
+
+  pub stand-small : (i k : ℕ) → Stand (addressRight w ts ws) words base (base + i) k → base + i < length words → k < length words
+  stand-small i k s h = carry-small words p (base + i) k h (s .here h)
+
+  module _ (i k k′ : ℕ) (good : Bool) (names evens : List ℕ) (s : Stand (addressRight w ts ws) words base (base + i) k) (hc : base + i < length words) (hi : i < 1024)
+      (y : Tallied base ws names evens)
+      (eg : good ≡ (eqb (count (tombstone w) (readAt words (base + i) k)) (getD evens i 0)
+      && eqb (count (void w) (readAt words (base + i) k)) (mothersOf (base + i) ts - getD names i 0))) where
+    split : rightFrom (addressRight w ts ws) base (decode words) ≡ (good && rightFrom (addressRight w ts ws) (base + i + 1) (decode words))
+    split =
+        s .gone
+        ∙ one-more words p (addressRight w ts ws) (base + i) good hc
+        (test-is words p (base + i) k hc (s .here hc) w ts ws good (getD names i 0) (getD evens i 0) (y .named i hi) (y .even i hi) eg)
+
+    pub stand-on : k′ ≡ k + length (readAt words (base + i) k) - 1 → good ≡ true → Stand (addressRight w ts ws) words base (base + (i + 1)) k′
+    stand-on ek g =
+        let z : base + i + 1 ≡ base + (i + 1) = omega arith in
+        record {
+          here = λ h. next-carry words p (base + i) k hc (s .here hc) k′ ek (omega arith) ∙ ap (carry (decode words)) z;
+          gone =
+              split ∙ ap (λ (b : Bool). b && rightFrom (addressRight w ts ws) (base + i + 1) (decode words)) g
+              ∙ ap (λ (c : ℕ). rightFrom (addressRight w ts ws) c (decode words)) z;
+        }
+
+    pub stand-off : good ≡ false → Block (addressRight w ts ws) (decode words) base good k′
+    stand-off g =
+        record {
+          splits =
+              split ∙ ap (λ (b : Bool). b && rightFrom (addressRight w ts ws) (base + i + 1) (decode words)) g
+              ∙ ap (λ (b : Bool). b && rightFrom (addressRight w ts ws) (base + 1024) (decode words)) (sym g);
+          onward = λ e. absurd (no-true (sym g ∙ e));
+        }
+
+  module _ (i k : ℕ) (s : Stand (addressRight w ts ws) words base (base + i) k) (hi : i ≤ 1024) where
+    pub stand-out : length words ≤ base + i → Block (addressRight w ts ws) (decode words) base true k
+    stand-out h =
+        record {
+          splits =
+              s .gone ∙ right-out words p (addressRight w ts ws) (base + i) h ∙ sym (right-out words p (addressRight w ts ws) (base + 1024) (omega arith));
+          onward = λ e l. absurd (omega (arith, same-size words p));
+        }
+
+    pub stand-end : 1024 ≤ i → Block (addressRight w ts ws) (decode words) base true k
+    stand-end h =
+        let z : base + i ≡ base + 1024 = omega arith in
+        record {
+          splits = s .gone ∙ ap (λ (c : ℕ). rightFrom (addressRight w ts ws) c (decode words)) z;
+          onward = λ e l. s .here (omega (arith, same-size words p)) ∙ ap (carry (decode words)) z;
+        }
+
+-- ---- block after block
+
+module _ (words : List ℕ) (f : ℕ → List ℕ → Bool) (p : Laid words) where
+  pub blocks-start : (k : ℕ) → k ≡ placeOf words 0 → Stand f words 0 0 k
+  blocks-start k e = record { here = λ h. carry-is words p 0 k h e; gone = refl }
+
+  module _ (base k : ℕ) (s : Stand f words 0 base k) where
+    module _ (good : Bool) (k′ : ℕ) (b : Block f (decode words) base good k′) where
+      pub blocks-on : good ≡ true → Stand f words 0 (base + 1024) k′
+      blocks-on g =
+          record {
+            here = λ h. b .onward g (omega (arith, same-size words p));
+            gone = s .gone ∙ b .splits ∙ ap (λ (x : Bool). x && rightFrom f (base + 1024) (decode words)) g;
+          }
+
+      pub blocks-off : good ≡ false → false ≡ rightFrom f 0 (decode words)
+      blocks-off g = sym (s .gone ∙ b .splits ∙ ap (λ (x : Bool). x && rightFrom f (base + 1024) (decode words)) g)
+
+    pub blocks-end : length words ≤ base → true ≡ rightFrom f 0 (decode words)
+    blocks-end h = sym (s .gone ∙ right-out words p f base h)

@@ -1,0 +1,5 @@
+-- Laws of the counts.
+pub mod Tallies
+pub mod Blocks
+pub mod InUse
+pub mod Stored

@@ -1,0 +1,87 @@
+-- After i places, what is counted and what the other tables in use hold make the whole.
+use Prim.Native.Nat.{_≤_, _-_}
+use mathlib.Core.Path.{_≡_}
+use native.Mathlib.Omega.{arith}
+use borrow.Author.Needs.{needs}
+use lib.ListN.{length}
+use Rattle.counts.proofs.InUse.{Walk, walk-start, walk-least, walk-below, walk-most, walk-power, walk-room, walk-size, walk-on}
+use Rattle.counts.proofs.Stored.{Sum, sum-start, sum-stop, sum-end, sum-on}
+use Rattle.counts.proofs.mothers.Statement.{statement}
+use Rattle.counts.proofs.mothers.Tie as tie
+
+abbrev Inv-loop : tie.InvT-loop
+Inv-loop annex c places total₀ at₀ i₀ total at i = (i ≤ 15) × (length places ≡ 15) × Walk places annex i at × Sum places annex c i at total
+
+abbrev μ-loop : tie.MeasureT-loop
+μ-loop annex c places total₀ at₀ i₀ total at i = 15 - i
+
+loop-holds : tie.Need-loop-holds Inv-loop μ-loop
+loop-holds c = (omega arith, search needs, search (needs, walk-start), search (needs, sum-start))
+
+mul-p : tie.Need-mul-p Inv-loop μ-loop
+mul-p c = search needs
+
+array-copy-out-p : tie.Need-array-copy-out-p Inv-loop μ-loop
+array-copy-out-p c = search needs
+
+returns : tie.Need-returns Inv-loop μ-loop
+returns c = search (needs, sum-stop)
+
+table-words-requires : tie.Need-table-words-requires Inv-loop μ-loop
+table-words-requires c κs = search (needs, walk-power)
+
+add-end : tie.Need-add-end Inv-loop μ-loop
+add-end c = search needs
+
+mul-part : tie.Need-mul-part Inv-loop μ-loop
+mul-part c = search needs
+
+sub-part : tie.Need-sub-part Inv-loop μ-loop
+sub-part c = search needs
+
+part-part-start : tie.Need-part-part-start Inv-loop μ-loop
+part-part-start c = search needs
+
+part-part-end : tie.Need-part-part-end Inv-loop μ-loop
+part-part-end c = search (needs, walk-room)
+
+matching-in-requires : tie.Need-matching-in-requires Inv-loop μ-loop
+matching-in-requires c κs = (search (needs, walk-least), search (needs, walk-below), search (needs, walk-most), search (needs, walk-size))
+
+add-total : tie.Need-add-total Inv-loop μ-loop
+add-total c = search needs
+
+add-i : tie.Need-add-i Inv-loop μ-loop
+add-i c = search needs
+
+loop-less : tie.Need-loop-less Inv-loop μ-loop
+loop-less c = search needs
+
+loop-again : tie.Need-loop-again Inv-loop μ-loop
+loop-again c = (search needs, search needs, search (needs, walk-on), search (needs, sum-on))
+
+returns-2 : tie.Need-returns-2 Inv-loop μ-loop
+returns-2 c = sum-end _ _ _ _ _ _ (c .before .loop .inv .3) (omega arith)
+
+pub mothers-spec : {M : Type 1} → statement M
+mothers-spec =
+    tie.close
+    (tie.spec
+    Inv-loop
+    μ-loop
+    loop-holds
+    mul-p
+    array-copy-out-p
+    returns
+    table-words-requires
+    add-end
+    mul-part
+    sub-part
+    part-part-start
+    part-part-end
+    matching-in-requires
+    add-total
+    add-i
+    loop-less
+    loop-again
+    returns-2)
