@@ -24,7 +24,7 @@ use Rattle.counts.specs.Tally.{Tallied}
 use Rattle.counts.specs.Blocks.{rightFrom, Block}
 use Rattle.sound.proofs.Readings.{run-read}
 
--- i addresses from `from` on are right, and k entries wait on arrival at the next, c
+-- of the addresses from `from` on, those from c on are right exactly if all are, and k entries wait on arrival at c
 pub record Stand (f : ℕ → List ℕ → Bool) (words : List ℕ) (from c k : ℕ) : Type 0 where
   pub here : c < length words → k ≡ carry (decode words) c
   pub gone : rightFrom f from (decode words) ≡ rightFrom f c (decode words)

@@ -9,3 +9,6 @@ pub mod Renews
 pub mod Starts
 pub mod Parts
 pub mod Audits
+pub mod Settles
+pub mod Doubles
+pub mod Restarts

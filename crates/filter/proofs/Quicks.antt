@@ -26,7 +26,7 @@ use Rattle.filter.specs.Contracts.{firstNumber, Leaves, Quick}
 use Rattle.filter.proofs.Firsts.{any-hit, first-hit}
 use Rattle.filter.proofs.Outcomes.{first-right, first-asked, given, refusal-quick, done-quick}
 
-less : (a b : ℕ) → a ≤ b → (a ≡ b → ⊥) → a < b
+pub less : (a b : ℕ) → a ≤ b → (a ≡ b → ⊥) → a < b
 less a b h ne = go (ℕ-discrete a b)
   where
     go : Dec (a ≡ b) → a < b

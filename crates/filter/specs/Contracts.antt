@@ -1,6 +1,6 @@
 -- Document 01, "How tight a contract has to be": "Each public call's contract determines its answer, record and every lent word for all inputs, refused ones too".
 use mathlib.Core.Path.{_≡_}
-use mathlib.Core.Bool.{Bool, true}
+use mathlib.Core.Bool.{Bool, true, cond}
 use mathlib.Core.List.{List, [], _∷_}
 use Prim.Native.Nat.{ℕ, suc, _<_}
 use lib.Dec.{T}
@@ -9,9 +9,9 @@ use Rattle.slots.specs.Payload.{lengthOf}
 use Rattle.rules.specs.Record.{Filter, change, fresh, width}
 use Rattle.rules.specs.Refusals.{refusal, recordRight, slicesRight}
 use Rattle.rules.specs.Sound.{sound}
-use Rattle.rules.specs.Calls.{Outcome, start}
+use Rattle.rules.specs.Calls.{Outcome, refused, start}
 use Rattle.rules.specs.Quick.{home, matched, best, freshEntry, queryNumber, insert, insertNumber, delete, rejuvenate}
-use Rattle.rules.specs.Slow.{settle, double, secondMain}
+use Rattle.rules.specs.Slow.{audit, settle, hashes, roomFor, doubleNumber, double, secondMain}
 
 -- the number as far as 2 and 3 go, by the record and the lengths of main, queue and annex
 unfoldable pub firstNumber : Filter → ℕ → ℕ → ℕ → ℕ
@@ -55,6 +55,10 @@ Deletes r main queue annex h = Quick (delete r main queue annex h) (queryNumber 
 abbrev pub Rejuvenates : Filter → List ℕ → List ℕ → List ℕ → ℕ → ℕ → Filter → List ℕ → List ℕ → List ℕ → Type 0
 Rejuvenates r main queue annex h = Quick (rejuvenate r main queue annex h) (queryNumber r main queue annex) (sound r main queue annex) r main queue annex
 
+-- Audit changes nothing, and answers its number
+abbrev pub Audits : Filter → List ℕ → List ℕ → List ℕ → ℕ → Filter → List ℕ → List ℕ → List ℕ → Type 0
+Audits r main queue annex = Leaves (refused r main queue annex (audit r main queue annex))
+
 abbrev pub Settles : Filter → List ℕ → List ℕ → List ℕ → ℕ → Filter → List ℕ → List ℕ → List ℕ → Type 0
 Settles r main queue annex = Leaves (settle r main queue annex)
 
@@ -76,3 +80,11 @@ pub record Chosen (r : Filter) (main queue annex : List ℕ) (h c p : ℕ) : Typ
 pub record Renewing (r : Filter) (h p q : ℕ) : Type 0 where
   pub shorter : lengthOf (width r) p < fresh r
   pub becomes : q ≡ freshEntry r h
+
+-- Double's number before the annex is asked for room: a refusal is the definition's, and where there is none only 10 is left
+pub record BeforeRoom (r : Filter) (main queue annex : List ℕ) (second number : ℕ) : Type 0 where
+  pub refused : (number ≡ 0 → ⊥) → number ≡ doubleNumber r main queue annex second
+  pub right : number ≡ 0 → T (recordRight r)
+  pub low : number ≡ 0 → r .k < 20
+  pub accepted : number ≡ 0 → audit r main queue annex ≡ 0
+  pub room : number ≡ 0 → (b : Bool) → b ≡ roomFor r main queue annex (hashes r main queue annex) → doubleNumber r main queue annex second ≡ cond b 0 10

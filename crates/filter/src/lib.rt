@@ -1,17 +1,18 @@
 // The record of a filter, by value, and its calls.
 ghost use mathlib.Core.Path.{_≡_};
-ghost use Prim.Native.Nat.{_≤_};
+ghost use Prim.Native.Nat.{_+_, _≤_, _<_};
 ghost use lib.Dec.{T};
 ghost use lib.ListN.{length, replicate};
 ghost use Rattle.directory.specs.Places.{noPlace};
-ghost use Rattle.rules.specs.Record.{fresh, width, allZero};
+ghost use Rattle.rules.specs.Record.{fresh, width, widthAt, annexUsed, allZero};
 ghost use Rattle.rules.specs.Refusals.{settingsRight, recordRight, slicesRight};
 ghost use Rattle.rules.specs.Quick.{query};
 ghost use Rattle.rules.specs.Slow.{audit};
 ghost use Rattle.rules.specs.Lookups.{part};
 ghost use Rattle.filter.specs.Plain.{plain};
+ghost use Rattle.filter.specs.Restart.{restart};
 ghost use Rattle.slots.specs.Payload.{void};
-ghost use Rattle.filter.specs.Contracts.{firstNumber, Starts, Inserts, Deletes, Rejuvenates, Chosen, Renewing};
+ghost use Rattle.filter.specs.Contracts.{firstNumber, Starts, Inserts, Deletes, Rejuvenates, Audits, Settles, Doubles, Chosen, Renewing, BeforeRoom, Leaves};
 use directory::Place;
 
 #[repr(C)]
@@ -62,9 +63,7 @@ impl Record {
     {
         let slots = slots::pow2(self.k) as usize;
         let queued = self.queued as usize;
-        let dir = self.dir;
-        let n = directory::places_in_use(dir);
-        let taken = directory::words_taken(dir, n);
+        let taken = self.annex_used();
         (main == slots) & ((queued <= queue) & (taken <= annex))
     }
 
@@ -76,7 +75,7 @@ impl Record {
             if self.lent_right(main, queue, annex) {
                 return 0; // neither
             }
-            return 3;
+            return 3; // the lengths
         }
         2
     }
@@ -410,6 +409,125 @@ impl Record {
         4
     }
 
+    // Audit as a call that answers the record: it is the one handed in.
+    pub fn audited(self, main: &mut [u32], queue: &mut [u32], annex: &mut [u32]) -> Answer
+        ensures { λ a. ⌜ Audits (plain self) (now (main .entry)) (now (queue .entry)) (now (annex .entry))
+            (a .number) (plain (a .rec)) (now (main .exit)) (now (queue .exit)) (now (annex .exit)) ⌝ }
+    {
+        let n = self.audit(main, queue, annex);
+        Answer {
+            number: n,
+            rec: self,
+        }
+    }
+
+    pub fn settle(mut self, main: &mut [u32], queue: &mut [u32], annex: &mut [u32]) -> Answer
+        ensures { λ a. ⌜ Settles (plain self) (now (main .entry)) (now (queue .entry)) (now (annex .entry))
+            (a .number) (plain (a .rec)) (now (main .exit)) (now (queue .exit)) (now (annex .exit)) ⌝ }
+    {
+        let n = self.audit(main, queue, annex);
+        if n != 0 {
+            return Answer {
+                number: n,
+                rec: self,
+            };
+        }
+        let w = self.width();
+        let queued = self.queued as usize;
+        let dir = self.dir;
+        let left = settling::settle(main, queue, annex, self.k, w, self.used, queued, dir);
+        let places = left.places;
+        self.used = left.used;
+        self.queued = 0;
+        self.dir = places;
+        Answer {
+            number: 0,
+            rec: self,
+        }
+    }
+
+    // The words of the annex tables in use.
+    fn annex_used(self) -> usize
+        requires { ⌜ T (recordRight (plain self)) ⌝ }
+        ensures { λ r. ⌜ (r ≡ annexUsed (plain self)) × (r ≤ 1048576) ⌝ }
+    {
+        let dir = self.dir;
+        let n = directory::places_in_use(dir);
+        directory::words_taken(dir, n)
+    }
+
+    // The width of payloads after the next doubling.
+    fn next_width(self) -> u32
+        requires { ⌜ T (recordRight (plain self)) × (self .k < 20) ⌝ }
+        ensures { λ r. ⌜ r ≡ widthAt (plain self) (self .k + 1) ⌝ }
+    {
+        self.f + slots::extra_bits(self.regime, self.k + 1 - self.start) + 1
+    }
+
+    // 2, 9, 3, 4, 8, or 0 where none of them is given to Double, which is lent a second main of `second` words.
+    fn double_number(self, main: &[u32], queue: &[u32], annex: &[u32], second: usize) -> u32
+        ensures { λ a. ⌜ BeforeRoom (plain self) (now (main .entry)) (now (queue .entry)) (now (annex .entry)) second a ⌝ }
+    {
+        if self.in_range() {
+            if self.k == 20 {
+                return 9;
+            }
+            let wanted = slots::pow2(self.k + 1) as usize;
+            if second != wanted {
+                return 3; // the second main
+            }
+            let n = self.audit(main, queue, annex);
+            if n != 0 {
+                return n;
+            }
+            if self.queued != 0 {
+                return 8;
+            }
+            return 0; // as far as these go
+        }
+        2 // Double too
+    }
+
+    pub fn double(
+        mut self,
+        main: &mut [u32],
+        queue: &mut [u32],
+        annex: &mut [u32],
+        second: &mut [u32],
+    ) -> Answer
+        ensures { λ a. ⌜ Doubles (plain self) (now (main .entry)) (now (queue .entry)) (now (annex .entry)) (now (second .entry))
+            (a .number) (plain (a .rec)) (now (main .exit)) (now (queue .exit)) (now (annex .exit)) (now (second .exit)) ⌝ }
+    {
+        let n = self.double_number(main, queue, annex, second.len());
+        if n != 0 {
+            return Answer {
+                number: n,
+                rec: self,
+            };
+        }
+        let w = self.width();
+        let v = self.next_width();
+        let taken = self.annex_used();
+        let new = doubling::count_new(main, w);
+        if doubling::room_for(annex, taken, new) {
+            let dir = self.dir;
+            let made = doubling::double(main, second, annex, self.k, w, v, taken, new, dir);
+            let places = made.places;
+            self.k = self.k + 1;
+            self.used = made.used;
+            self.queued = 0;
+            self.dir = places;
+            return Answer {
+                number: 0,
+                rec: self,
+            };
+        }
+        Answer {
+            number: 10,
+            rec: self,
+        }
+    }
+
     // The words of the annex table of length b, a part of the annex itself, or an empty part.
     pub fn part<'a>(self, annex: &'a [u32], b: u32) -> &'a [u32]
         ensures words { λ r. ⌜ now r ≡ part (plain self) (now (annex .entry)) b ⌝ }
@@ -437,18 +555,6 @@ fn no_places() -> [Place; 15]
     }; 15]
 }
 
-// Every word is 0.
-fn empty(main: &mut [u32])
-    ensures { λ r. ⌜ now (main .exit) ≡ replicate (length (now (main .entry))) 0 ⌝ }
-{
-    let n = main.len();
-    let mut i: usize = 0;
-    while i < n {
-        main[i] = 0;
-        i += 1;
-    }
-}
-
 impl Record {
     pub fn start(
         main: &mut [u32],
@@ -464,7 +570,7 @@ impl Record {
         if settings_right(power, f, regime) {
             let slots = slots::pow2(power) as usize;
             if main.len() == slots {
-                empty(main);
+                table::clear(main);
                 return Answer {
                     number: 0,
                     rec: Record {
@@ -486,6 +592,30 @@ impl Record {
         Answer {
             number: 11,
             rec: all_zero(),
+        }
+    }
+
+    // Start over this record, which is answered where Start is refused.
+    pub fn restart(
+        self,
+        main: &mut [u32],
+        queue: &mut [u32],
+        annex: &mut [u32],
+        power: u32,
+        f: u32,
+        regime: u32,
+    ) -> Answer
+        ensures { λ a. ⌜ Leaves
+            (restart (plain self) power f regime (now (main .entry)) (now (queue .entry)) (now (annex .entry)))
+            (a .number) (plain (a .rec)) (now (main .exit)) (now (queue .exit)) (now (annex .exit)) ⌝ }
+    {
+        let a = Record::start(main, queue, annex, power, f, regime);
+        if a.number == 0 {
+            return a;
+        }
+        Answer {
+            number: a.number,
+            rec: self,
         }
     }
 }

@@ -220,6 +220,21 @@ fn entry_at(ws: &[u32], b: usize, from: usize, t: usize) -> Step
     }
 }
 
+// Entry t of the run of c, which is at b and from if it has an entry, where it has t entries or more.
+pub fn entry_in_run(ws: &[u32], c: usize, b: usize, from: usize, t: usize) -> Step
+    requires { ⌜ (c < length (now ws)) × (b < length (now ws)) × (length (now ws) ≤ 1048576) × (from ≤ length (now ws))
+        × (runFrom (now ws) b from ≡ reading (turn (suc c) (now ws))) × (t ≤ length (runAt (now ws) c)) ⌝ }
+    ensures { λ r. ⌜ (r .more ≡ ltb t (length (runAt (now (ws .entry)) c))) × (r .payload ≡ getD (runAt (now (ws .entry)) c) t 0) ⌝ }
+{
+    if ws[c] % 2 == 0 {
+        return Step {
+            more: false,
+            payload: 0,
+        };
+    }
+    entry_at(ws, b, from, t)
+}
+
 // How many entries of the run come before the first that is x or larger.
 fn rank_from(ws: &[u32], b: usize, from: usize, x: u32) -> usize
     requires { ⌜ (b < length (now ws)) × (length (now ws) ≤ 1048576) × (from ≤ length (now ws)) ⌝ }

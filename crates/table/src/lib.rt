@@ -4,7 +4,7 @@ ghost use mathlib.Core.Bool.{true, false};
 ghost use mathlib.Core.List.{List, []};
 ghost use Prim.Native.Nat.{ℕ, suc, _+_, _-_, _*_, _/_, _%_, _≤_, _<_};
 ghost use lib.Dec.{T};
-ghost use lib.ListN.{length, take, drop, getD, set};
+ghost use lib.ListN.{length, take, drop, getD, set, replicate};
 ghost use Rattle.layout.specs.Machine.{layout};
 ghost use Rattle.layout.specs.Decode.{turn, entry};
 ghost use Rattle.layout.specs.Moves.{wrap, going, drawing, closer, isStart, insertAt, removeAt, occs};
@@ -315,4 +315,16 @@ pub fn exchange(ws: &mut [u32], c: usize, x: u32, y: u32) -> bool
         return true;
     }
     false
+}
+
+// Every word becomes 0.
+pub fn clear(ws: &mut [u32])
+    ensures { λ r. ⌜ now (ws .exit) ≡ replicate (length (now (ws .entry))) 0 ⌝ }
+{
+    let n = ws.len();
+    let mut i: usize = 0;
+    while i < n {
+        ws[i] = 0;
+        i += 1;
+    }
 }

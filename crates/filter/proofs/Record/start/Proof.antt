@@ -15,8 +15,8 @@ pow2-requires c κs = omega (arith, power-low (c .before .before .before .before
 cast-slots : tie.Need-cast-slots
 cast-slots c = search needs
 
-empty-requires : tie.Need-empty-requires
-empty-requires c κs = search needs
+clear-requires : tie.Need-clear-requires
+clear-requires c κs = search needs
 
 no-places-requires : tie.Need-no-places-requires
 no-places-requires c κs = search needs
@@ -25,7 +25,7 @@ same-length : tie.Need-same-length
 same-length c = search needs
 
 returns : tie.Need-returns
-returns c = start-0 (c .before .before .before .before .before .before .before .before .before .before .before .before .args .power) (c .before .before .before .before .before .before .before .before .before .before .before .before .args .f) (c .before .before .before .before .before .before .before .before .before .before .before .before .args .regime) (c .before .before .before .before .before .before .before .before .before .before .before .before .args .main .now) (c .before .before .before .before .before .before .before .before .before .before .before .before .args .queue .now) (c .before .before .before .before .before .before .before .before .before .before .before .before .args .annex .now) (sym (c .before .before .before .before .before .before .before .before .settings-right .ensures) ∙ c .before .before .before .before .before .before .before .if1 .taken) _ (c .before .before .before .before .before .before .pow2 .ensures .0) (c .before .before .before .before .before .if2 .taken) _ (fresh-record (c .before .before .before .before .before .before .before .before .before .before .before .before .args .power) (c .before .before .before .before .before .before .before .before .before .before .before .before .args .f) (c .before .before .before .before .before .before .before .before .before .before .before .before .args .regime) (c .before .before .before .before .before .before .before .before .before .before .before .before .args .main .now) (c .before .before .before .before .before .before .before .before .before .before .before .before .args .queue .now) (c .before .before .before .before .before .before .before .before .before .before .before .before .args .annex .now) _ (c .no-places .ensures)) _ (c .before .before .before .empty .ensures)
+returns c = start-0 (c .before .before .before .before .before .before .before .before .before .before .before .before .args .power) (c .before .before .before .before .before .before .before .before .before .before .before .before .args .f) (c .before .before .before .before .before .before .before .before .before .before .before .before .args .regime) (c .before .before .before .before .before .before .before .before .before .before .before .before .args .main .now) (c .before .before .before .before .before .before .before .before .before .before .before .before .args .queue .now) (c .before .before .before .before .before .before .before .before .before .before .before .before .args .annex .now) (sym (c .before .before .before .before .before .before .before .before .settings-right .ensures) ∙ c .before .before .before .before .before .before .before .if1 .taken) _ (c .before .before .before .before .before .before .pow2 .ensures .0) (c .before .before .before .before .before .if2 .taken) _ (fresh-record (c .before .before .before .before .before .before .before .before .before .before .before .before .args .power) (c .before .before .before .before .before .before .before .before .before .before .before .before .args .f) (c .before .before .before .before .before .before .before .before .before .before .before .before .args .regime) (c .before .before .before .before .before .before .before .before .before .before .before .before .args .main .now) (c .before .before .before .before .before .before .before .before .before .before .before .before .args .queue .now) (c .before .before .before .before .before .before .before .before .before .before .before .before .args .annex .now) _ (c .no-places .ensures)) _ (c .before .before .before .clear .ensures)
 
 all-zero-requires : tie.Need-all-zero-requires
 all-zero-requires c κs = search needs
@@ -46,7 +46,7 @@ start-spec =
     settings-right-requires
     pow2-requires
     cast-slots
-    empty-requires
+    clear-requires
     no-places-requires
     same-length
     returns

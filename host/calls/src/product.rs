@@ -1,0 +1,205 @@
+//! The exported functions, each wrapped once. Guard words stand on both sides of every lent slice.
+
+use second::{Place, Record, State};
+
+/// `kj_filter` of kjarnhul.h.
+#[repr(C)]
+#[derive(Clone, Copy)]
+struct Filter {
+    numbers: [u32; 6],
+    annex: [[u32; 3]; 15],
+}
+
+type Lent = *mut u32;
+
+extern "C" {
+    #[rustfmt::skip]
+    fn kj_start(
+        r: *mut Filter,
+        m: Lent,
+        ml: usize,
+        q: Lent,
+        ql: usize,
+        a: Lent,
+        al: usize,
+        power: u32,
+        f: u32,
+        regime: u32,
+    ) -> u32;
+    #[rustfmt::skip]
+    fn kj_query(
+        r: *const Filter,
+        m: *const u32,
+        ml: usize,
+        q: *const u32,
+        ql: usize,
+        a: *const u32,
+        al: usize,
+        hash: u64,
+    ) -> u32;
+    fn kj_insert(
+        r: *mut Filter,
+        m: Lent,
+        ml: usize,
+        q: Lent,
+        ql: usize,
+        a: Lent,
+        al: usize,
+        hash: u64,
+    ) -> u32;
+    fn kj_delete(
+        r: *mut Filter,
+        m: Lent,
+        ml: usize,
+        q: Lent,
+        ql: usize,
+        a: Lent,
+        al: usize,
+        hash: u64,
+    ) -> u32;
+    #[rustfmt::skip]
+    fn kj_rejuvenate(
+        r: *mut Filter,
+        m: Lent,
+        ml: usize,
+        q: Lent,
+        ql: usize,
+        a: Lent,
+        al: usize,
+        hash: u64,
+    ) -> u32;
+    fn kj_audit(r: *mut Filter, m: Lent, ml: usize, q: Lent, ql: usize, a: Lent, al: usize) -> u32;
+    fn kj_settle(r: *mut Filter, m: Lent, ml: usize, q: Lent, ql: usize, a: Lent, al: usize)
+        -> u32;
+    #[rustfmt::skip]
+    fn kj_double(
+        r: *mut Filter,
+        m: Lent,
+        ml: usize,
+        q: Lent,
+        ql: usize,
+        a: Lent,
+        al: usize,
+        s: Lent,
+        sl: usize,
+    ) -> u32;
+    fn kj_query_bytes(k: u32, w: u32, hash: u64, bytes: *const u8, count: usize) -> u32;
+}
+
+const GUARD: u32 = 0x5afe_c0de;
+const GUARDS: usize = 8;
+
+/// Words with guards on both sides.
+struct Guarded {
+    all: Vec<u32>,
+    count: usize,
+}
+
+impl Guarded {
+    fn new(words: &[u32]) -> Guarded {
+        let mut all = vec![GUARD; GUARDS];
+        all.extend_from_slice(words);
+        all.extend_from_slice(&[GUARD; GUARDS]);
+        Guarded {
+            all,
+            count: words.len(),
+        }
+    }
+
+    fn pointer(&mut self) -> *mut u32 {
+        self.all[GUARDS..].as_mut_ptr()
+    }
+
+    /// The words, after looking at the guards.
+    fn words(&self) -> Vec<u32> {
+        let (before, rest) = self.all.split_at(GUARDS);
+        let (words, after) = rest.split_at(self.count);
+        let kept = before.iter().chain(after).all(|&word| word == GUARD);
+        assert!(kept, "a call wrote outside the words lent to it");
+        words.to_vec()
+    }
+}
+
+fn lend(record: &Record) -> Filter {
+    let r = record;
+    let place = |p: &Place| [p.length, p.size_power, p.count];
+    Filter {
+        numbers: [r.k, r.start_power, r.f, r.regime, r.used, r.queue_length],
+        annex: std::array::from_fn(|index| place(&r.places[index])),
+    }
+}
+
+fn take(filter: &Filter) -> Record {
+    let [k, start_power, f, regime, used, queue_length] = filter.numbers;
+    let place = |[length, size_power, count]: [u32; 3]| Place {
+        length,
+        size_power,
+        count,
+    };
+    Record {
+        k,
+        start_power,
+        f,
+        regime,
+        used,
+        queue_length,
+        places: filter.annex.map(place),
+    }
+}
+
+/// A call on a filter and its lent words.
+pub enum On {
+    Start(u32, u32, u32),
+    Query(u64),
+    Insert(u64),
+    Delete(u64),
+    Rejuvenate(u64),
+    Audit,
+    Settle,
+}
+
+/// Makes the call on the state, and gives its number.
+pub fn call(state: &mut State, on: &On) -> u32 {
+    let mut filter = lend(&state.record);
+    let mut lent = [&state.main, &state.queue, &state.annex].map(|words| Guarded::new(words));
+    let counts = [lent[0].count, lent[1].count, lent[2].count];
+    let [m, q, a] = [0, 1, 2].map(|index| lent[index].pointer());
+    let ([ml, ql, al], r) = (counts, &raw mut filter);
+    // Each pointer is to as many words as its length says, and none overlaps another.
+    let number = unsafe {
+        match *on {
+            On::Start(power, f, regime) => kj_start(r, m, ml, q, ql, a, al, power, f, regime),
+            On::Query(hash) => kj_query(r, m, ml, q, ql, a, al, hash),
+            On::Insert(hash) => kj_insert(r, m, ml, q, ql, a, al, hash),
+            On::Delete(hash) => kj_delete(r, m, ml, q, ql, a, al, hash),
+            On::Rejuvenate(hash) => kj_rejuvenate(r, m, ml, q, ql, a, al, hash),
+            On::Audit => kj_audit(r, m, ml, q, ql, a, al),
+            On::Settle => kj_settle(r, m, ml, q, ql, a, al),
+        }
+    };
+    state.record = take(&filter);
+    [state.main, state.queue, state.annex] = lent.map(|words| words.words());
+    number
+}
+
+/// Double, lent this second main: its number and what it leaves there.
+pub fn double(state: &mut State, second: &[u32]) -> (u32, Vec<u32>) {
+    let mut filter = lend(&state.record);
+    let words = [&state.main[..], &state.queue, &state.annex, second];
+    let mut lent = words.map(Guarded::new);
+    let counts = words.map(<[u32]>::len);
+    let [m, q, a, s] = [0, 1, 2, 3].map(|index| lent[index].pointer());
+    let ([ml, ql, al, sl], r) = (counts, &raw mut filter);
+    // As above, with the second main.
+    let number = unsafe { kj_double(r, m, ml, q, ql, a, al, s, sl) };
+    state.record = take(&filter);
+    let [main, queue, annex, second] = lent.map(|words| words.words());
+    (state.main, state.queue, state.annex) = (main, queue, annex);
+    (number, second)
+}
+
+/// The exported Query on these bytes.
+pub fn query_bytes(k: u32, w: u32, hash: u64, bytes: &[u8]) -> u32 {
+    // The pointer is to as many bytes as the length says.
+    unsafe { kj_query_bytes(k, w, hash, bytes.as_ptr(), bytes.len()) }
+}
