@@ -5,7 +5,6 @@
 
 mod product;
 
-use product::On;
 use second::damage::{damage, full_queue};
 use second::lives::{large, lives, quick};
 use second::script::{Call, LENT_WORD};
@@ -36,39 +35,62 @@ fn known(answer: Answer) -> Option<u32> {
 }
 
 /// What the model answers to a call that the product makes too, if it is determined.
-fn expected(model: &mut State, on: &On) -> Option<u32> {
+fn expected(model: &mut State, on: &Call) -> Option<u32> {
     match *on {
-        On::Start(power, f, regime) => Some(second::start(model, power, f, regime)),
-        On::Query(hash) => known(second::query(model, hash)),
-        On::Insert(hash) => known(second::insert(model, hash)),
-        On::Delete(hash) => known(second::delete(model, hash)),
-        On::Rejuvenate(hash) => known(second::rejuvenate(model, hash)),
-        On::Audit => Some(second::audit(model)),
-        On::Settle => Some(second::settle(model)),
+        Call::Start(power, f, regime) => Some(second::start(model, power, f, regime)),
+        Call::Query(hash) => known(second::query(model, hash)),
+        Call::Insert(hash) => known(second::insert(model, hash)),
+        Call::Delete(hash) => known(second::delete(model, hash)),
+        Call::Rejuvenate(hash) => known(second::rejuvenate(model, hash)),
+        Call::Audit => Some(second::audit(model)),
+        Call::Settle => Some(second::settle(model)),
+        _ => None,
     }
+}
+
+/// The first place where two states differ.
+fn difference(left: &State, right: &State) -> Option<String> {
+    if left.record != right.record {
+        return Some(format!("record {:?}, got {:?}", left.record, right.record));
+    }
+    let slices = [
+        ("main", &left.main, &right.main),
+        ("queue", &left.queue, &right.queue),
+        ("annex", &left.annex, &right.annex),
+    ];
+    slices.iter().find_map(|(name, l, r)| {
+        let at = (0..l.len().max(r.len())).find(|&at| l.get(at) != r.get(at))?;
+        let (l, r) = (l.get(at), r.get(at));
+        Some(format!("{name} word {at} {l:?}, got {r:?}"))
+    })
 }
 
 fn same(what: &str, left: &State, right: &State, numbers: (u32, u32)) -> Result<(), String> {
-    if numbers.0 == numbers.1 && left == right {
+    if numbers.0 != numbers.1 {
+        return Err(format!("{what}: expected {}, got {}", numbers.0, numbers.1));
+    }
+    if left == right {
         return Ok(());
     }
-    Err(format!("{what}: expected {}, got {}", numbers.0, numbers.1))
+    let fault = difference(left, right).unwrap_or_default();
+    Err(format!("{what}: expected {fault}"))
 }
 
-/// A call on both. A refused Start through the lent record leaves that record, by value an all-zero one.
-fn both(model: &mut State, lent: &mut State, on: &On) -> Result<(), String> {
+/// A call on both, and whether its answer is determined and so was compared. A refused Start through the lent record leaves that record, by value an all-zero one.
+fn both(model: &mut State, lent: &mut State, on: &Call) -> Result<bool, String> {
     let before = lent.record;
     let Some(number) = expected(model, on) else {
-        return Ok(());
+        return Ok(false);
     };
     let got = product::call(lent, on);
-    if matches!(on, On::Start(..)) && number != 0 {
+    if matches!(on, Call::Start(..)) && number != 0 {
         if lent.record != before {
             return Err(String::from("a refused Start changed the lent record"));
         }
         lent.record = Record::default();
     }
-    same("call", model, lent, (number, got))
+    same("call", model, lent, (number, got))?;
+    Ok(true)
 }
 
 /// Double on both; where it is accepted the second main is the main.
@@ -87,49 +109,43 @@ fn doubled(model: &mut State, lent: &mut State, count: usize) -> Result<(), Stri
     Ok(())
 }
 
-/// The exported Query on both.
-fn bytes(model: &State, k: u32, w: u32, hash: u64, count: usize) -> Result<(), String> {
+/// The exported Query on both, and whether it was compared.
+fn bytes(model: &State, k: u32, w: u32, hash: u64, count: usize) -> Result<bool, String> {
     let mut all: Vec<u8> = model.main.iter().flat_map(|w| w.to_le_bytes()).collect();
     all.resize(count, 0);
     let Some(number) = known(second::query_bytes(k, w, hash, &all)) else {
-        return Ok(());
+        return Ok(false);
     };
     let got = product::query_bytes(k, w, hash, &all);
-    same("bytes", model, model, (number, got))
+    same("bytes", model, model, (number, got))?;
+    Ok(true)
 }
 
-/// One line of a script on both.
-fn step(model: &mut State, lent: &mut State, call: Call) -> Result<(), String> {
-    let on = match call {
+/// One line of a script on both, and whether it was a call that was compared. The part lookup is
+/// not exported, so it is not.
+fn step(model: &mut State, lent: &mut State, call: Call) -> Result<bool, String> {
+    match call {
         Call::Load(state) => {
             (*model, *lent) = ((*state).clone(), *state);
-            return Ok(());
+            Ok(false)
         }
-        Call::Double(count) => return doubled(model, lent, count),
-        Call::Bytes(k, w, hash, count) => return bytes(model, k, w, hash, count),
-        Call::Start(power, f, regime) => On::Start(power, f, regime),
-        Call::Query(hash) => On::Query(hash),
-        Call::Insert(hash) => On::Insert(hash),
-        Call::Delete(hash) => On::Delete(hash),
-        Call::Rejuvenate(hash) => On::Rejuvenate(hash),
-        Call::Audit => On::Audit,
-        Call::Settle => On::Settle,
-        Call::Part(_) | Call::Show | Call::End => return Ok(()),
-    };
-    both(model, lent, &on)
+        Call::Double(count) => doubled(model, lent, count).map(|()| true),
+        Call::Bytes(k, w, hash, count) => bytes(model, k, w, hash, count),
+        Call::Part(_) | Call::Show | Call::End => Ok(false),
+        _ => both(model, lent, &call),
+    }
 }
 
-/// Plays one script, and gives the number of its lines.
+/// Plays one script, and gives how many calls were compared.
 fn play(text: &str) -> Result<usize, String> {
     let (mut model, mut lent) = (State::default(), State::default());
-    let mut lines = 0;
-    for line in text.lines() {
-        let call = Call::parse(line)?;
-        step(&mut model, &mut lent, call)
-            .map_err(|fault| format!("line {}: {fault}", lines + 1))?;
-        lines += 1;
+    let mut compared = 0;
+    for (line, written) in text.lines().enumerate() {
+        let call = Call::parse(written)?;
+        let done = step(&mut model, &mut lent, call);
+        compared += usize::from(done.map_err(|fault| format!("line {}: {fault}", line + 1))?);
     }
-    Ok(lines)
+    Ok(compared)
 }
 
 /// Plays the scripts, prints what each gave, and last how many passed.
@@ -137,9 +153,9 @@ fn run(plays: &[(u64, u32, String)]) -> bool {
     let (mut passed, mut failed) = (0, 0);
     for (seed, calls, mode) in plays {
         match script(*seed, *calls, mode).and_then(|text| play(&text)) {
-            Ok(lines) => {
+            Ok(compared) => {
                 passed += 1;
-                println!("{mode} {seed}: {lines} lines agree");
+                println!("{mode} {seed}: {compared} calls agree");
             }
             Err(fault) => {
                 failed += 1;

@@ -1,90 +1,8 @@
 //! The exported functions, each wrapped once. Guard words stand on both sides of every lent slice.
 
+use exports::*;
+use second::script::Call;
 use second::{Place, Record, State};
-
-/// `kj_filter` of kjarnhul.h.
-#[repr(C)]
-#[derive(Clone, Copy)]
-struct Filter {
-    numbers: [u32; 6],
-    annex: [[u32; 3]; 15],
-}
-
-type Lent = *mut u32;
-
-extern "C" {
-    #[rustfmt::skip]
-    fn kj_start(
-        r: *mut Filter,
-        m: Lent,
-        ml: usize,
-        q: Lent,
-        ql: usize,
-        a: Lent,
-        al: usize,
-        power: u32,
-        f: u32,
-        regime: u32,
-    ) -> u32;
-    #[rustfmt::skip]
-    fn kj_query(
-        r: *const Filter,
-        m: *const u32,
-        ml: usize,
-        q: *const u32,
-        ql: usize,
-        a: *const u32,
-        al: usize,
-        hash: u64,
-    ) -> u32;
-    fn kj_insert(
-        r: *mut Filter,
-        m: Lent,
-        ml: usize,
-        q: Lent,
-        ql: usize,
-        a: Lent,
-        al: usize,
-        hash: u64,
-    ) -> u32;
-    fn kj_delete(
-        r: *mut Filter,
-        m: Lent,
-        ml: usize,
-        q: Lent,
-        ql: usize,
-        a: Lent,
-        al: usize,
-        hash: u64,
-    ) -> u32;
-    #[rustfmt::skip]
-    fn kj_rejuvenate(
-        r: *mut Filter,
-        m: Lent,
-        ml: usize,
-        q: Lent,
-        ql: usize,
-        a: Lent,
-        al: usize,
-        hash: u64,
-    ) -> u32;
-    fn kj_audit(r: *mut Filter, m: Lent, ml: usize, q: Lent, ql: usize, a: Lent, al: usize) -> u32;
-    fn kj_settle(r: *mut Filter, m: Lent, ml: usize, q: Lent, ql: usize, a: Lent, al: usize)
-        -> u32;
-    #[rustfmt::skip]
-    fn kj_double(
-        r: *mut Filter,
-        m: Lent,
-        ml: usize,
-        q: Lent,
-        ql: usize,
-        a: Lent,
-        al: usize,
-        s: Lent,
-        sl: usize,
-    ) -> u32;
-    fn kj_query_bytes(k: u32, w: u32, hash: u64, bytes: *const u8, count: usize) -> u32;
-}
 
 const GUARD: u32 = 0x5afe_c0de;
 const GUARDS: usize = 8;
@@ -147,19 +65,8 @@ fn take(filter: &Filter) -> Record {
     }
 }
 
-/// A call on a filter and its lent words.
-pub enum On {
-    Start(u32, u32, u32),
-    Query(u64),
-    Insert(u64),
-    Delete(u64),
-    Rejuvenate(u64),
-    Audit,
-    Settle,
-}
-
-/// Makes the call on the state, and gives its number.
-pub fn call(state: &mut State, on: &On) -> u32 {
+/// Makes the call on the state, and gives its number. Double and the exported Query have functions of their own.
+pub fn call(state: &mut State, on: &Call) -> u32 {
     let mut filter = lend(&state.record);
     let mut lent = [&state.main, &state.queue, &state.annex].map(|words| Guarded::new(words));
     let counts = [lent[0].count, lent[1].count, lent[2].count];
@@ -168,13 +75,14 @@ pub fn call(state: &mut State, on: &On) -> u32 {
     // Each pointer is to as many words as its length says, and none overlaps another.
     let number = unsafe {
         match *on {
-            On::Start(power, f, regime) => kj_start(r, m, ml, q, ql, a, al, power, f, regime),
-            On::Query(hash) => kj_query(r, m, ml, q, ql, a, al, hash),
-            On::Insert(hash) => kj_insert(r, m, ml, q, ql, a, al, hash),
-            On::Delete(hash) => kj_delete(r, m, ml, q, ql, a, al, hash),
-            On::Rejuvenate(hash) => kj_rejuvenate(r, m, ml, q, ql, a, al, hash),
-            On::Audit => kj_audit(r, m, ml, q, ql, a, al),
-            On::Settle => kj_settle(r, m, ml, q, ql, a, al),
+            Call::Start(power, f, regime) => kj_start(r, m, ml, q, ql, a, al, power, f, regime),
+            Call::Query(hash) => kj_query(r, m, ml, q, ql, a, al, hash),
+            Call::Insert(hash) => kj_insert(r, m, ml, q, ql, a, al, hash),
+            Call::Delete(hash) => kj_delete(r, m, ml, q, ql, a, al, hash),
+            Call::Rejuvenate(hash) => kj_rejuvenate(r, m, ml, q, ql, a, al, hash),
+            Call::Audit => kj_audit(r, m, ml, q, ql, a, al),
+            Call::Settle => kj_settle(r, m, ml, q, ql, a, al),
+            _ => unreachable!("no call on record, main, queue and annex alone"),
         }
     };
     state.record = take(&filter);

@@ -1,3 +1,4 @@
+-- 2 and 3 first, then 4 exactly where the whole state is not sound.
 use mathlib.Core.Path.{refl, sym, _∙_}
 use Rattle.filter.specs.Plain.{plain}
 use Rattle.filter.proofs.Outcomes.{first-right}
