@@ -154,21 +154,13 @@ pub struct Run {
     pub carry: usize,
 }
 
-// Where the run of c is: its cluster begins at home, the run begins `from` slots on from there, and `carry` slots on from c.
-pub fn locate(ws: &[u32], c: usize) -> Run
+// Where the run of c is: its cluster begins at home, the run begins `from` slots on from there, and `carry` slots on from c. By the walk left and then right.
+fn walk_to_run(ws: &[u32], c: usize) -> Run
     requires { ⌜ (c < length (now ws)) × (length (now ws) ≤ 1048576) × (1 < length (now ws)) ⌝ }
     ensures { λ r. ⌜ (r .home < length (now (ws .entry))) × (r .from ≤ length (now (ws .entry))) × (r .carry ≤ length (now (ws .entry)))
         × (runFrom (now (ws .entry)) (r .home) (r .from) ≡ reading (turn (suc c) (now (ws .entry)))) × (r .carry ≡ placeOf (now (ws .entry)) c) ⌝ }
 {
     let n = ws.len();
-    // An entry at home begins its run there.
-    if ws[c] / 2 % 4 == 0 {
-        return Run {
-            home: c,
-            from: 0,
-            carry: 0,
-        };
-    }
     let h = walk_home(ws, c);
     let k = h.steps;
     let m = h.runs;
@@ -180,6 +172,23 @@ pub fn locate(ws: &[u32], c: usize) -> Run
         from: s,
         carry: d,
     }
+}
+
+// The same, and no walk where the entry in c is at home.
+pub fn locate(ws: &[u32], c: usize) -> Run
+    requires { ⌜ (c < length (now ws)) × (length (now ws) ≤ 1048576) × (1 < length (now ws)) ⌝ }
+    ensures { λ r. ⌜ (r .home < length (now (ws .entry))) × (r .from ≤ length (now (ws .entry))) × (r .carry ≤ length (now (ws .entry)))
+        × (runFrom (now (ws .entry)) (r .home) (r .from) ≡ reading (turn (suc c) (now (ws .entry)))) × (r .carry ≡ placeOf (now (ws .entry)) c) ⌝ }
+{
+    // An entry at home begins its run there.
+    if ws[c] / 2 % 4 == 0 {
+        return Run {
+            home: c,
+            from: 0,
+            carry: 0,
+        };
+    }
+    walk_to_run(ws, c)
 }
 
 pub struct Step {
@@ -439,6 +448,27 @@ fn first_from(ws: &[u32], b: usize, from: usize, w: u32, k: u32, hash: u64) -> M
     }
 }
 
+pub struct RunPlace {
+    pub home: usize,
+    pub from: usize,
+}
+
+// Where a query finds the run of c. Apart from `locate`, so that the walk has two callers: then the compiler leaves the walk alone and puts the test before it into them.
+fn query_place(ws: &[u32], c: usize) -> RunPlace
+    requires { ⌜ (c < length (now ws)) × (length (now ws) ≤ 1048576) × (1 < length (now ws)) ⌝ }
+    ensures { λ r. ⌜ (r .home < length (now (ws .entry))) × (r .from ≤ length (now (ws .entry)))
+        × (runFrom (now (ws .entry)) (r .home) (r .from) ≡ reading (turn (suc c) (now (ws .entry)))) ⌝ }
+{
+    if ws[c] / 2 % 4 == 0 {
+        return RunPlace { home: c, from: 0 };
+    }
+    let r = walk_to_run(ws, c);
+    RunPlace {
+        home: r.home,
+        from: r.from,
+    }
+}
+
 // The first payload of the run of c that matches the hash.
 pub fn first_match(ws: &[u32], c: usize, w: u32, k: u32, hash: u64) -> Match
     requires { ⌜ (c < length (now ws)) × (length (now ws) ≤ 1048576) × (1 < length (now ws)) × (w ≤ 26) × (k ≤ 20) ⌝ }
@@ -450,7 +480,7 @@ pub fn first_match(ws: &[u32], c: usize, w: u32, k: u32, hash: u64) -> Match
             payload: 0,
         };
     }
-    let r = locate(ws, c);
+    let r = query_place(ws, c);
     let b = r.home;
     let f = r.from;
     first_from(ws, b, f, w, k, hash)

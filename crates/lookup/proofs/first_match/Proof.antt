@@ -1,4 +1,4 @@
--- `lookup::first_match` meets its contract: the run of an address without the occupied bit is empty, and that of another is where `locate` says.
+-- `lookup::first_match` meets its contract: the run of an address without the occupied bit is empty, and that of another is where `query_place` says.
 use mathlib.Core.Path.{sym, _∙_, subst}
 use mathlib.Core.List.{List}
 use Prim.Native.Nat.{ℕ}
@@ -22,8 +22,8 @@ returns c =
     let a = c .before .before .before .args in
     first-empty _ _ (run-none (a .ws .now) (a .c) (search needs) (c .if1 .taken))
 
-locate-requires : tie.Need-locate-requires
-locate-requires c κs = search needs
+query-place-requires : tie.Need-query-place-requires
+query-place-requires c κs = search needs
 
 first-from-requires : tie.Need-first-from-requires
 first-from-requires c κs = search needs
@@ -32,9 +32,9 @@ returns-2 : tie.Need-returns-2
 returns-2 c =
     let a = c .before .before .before .before .before .args in
     subst (λ (l : List ℕ). First (matches (a .w) (a .k) (a .hash)) l (c .first-from .result .found) (c .first-from .result .payload))
-    (c .before .locate .ensures .3 ∙ sym (run-some (a .ws .now) (a .c) (search needs) (omega arith))) (c .first-from .ensures)
+    (c .before .query-place .ensures .2 ∙ sym (run-some (a .ws .now) (a .c) (search needs) (omega arith))) (c .first-from .ensures)
 
 pub first-match-spec : {M : Type 1} → statement M
 first-match-spec =
     tie.close
-    (tie.spec mul-if1 shared-slice-read-if1 returns locate-requires first-from-requires returns-2)
+    (tie.spec mul-if1 shared-slice-read-if1 returns query-place-requires first-from-requires returns-2)
