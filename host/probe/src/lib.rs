@@ -18,6 +18,7 @@ extern "C" {
     fn probe_first_bytes(bytes: *const u8, length: usize, k: u32, w: u32, hash: u64) -> u32;
 }
 
+#[inline]
 fn check_slots(slots: usize) {
     assert!(
         (LEAST_SLOTS..=MOST_SLOTS).contains(&slots),
@@ -25,11 +26,13 @@ fn check_slots(slots: usize) {
     );
 }
 
+#[inline]
 fn done(answer: u32) -> bool {
     assert!(answer != REFUSED, "the call is refused");
     answer == 1
 }
 
+#[inline]
 fn found(answer: u32) -> Option<u32> {
     assert!(answer != FIRST_REFUSED, "the call is refused");
     (answer != NONE).then_some(answer)
