@@ -61,17 +61,9 @@ pub fn rest_of(payload: u32, w: u32) -> u32
     requires { ⌜ (w ≤ 26) × (payload < 2 ^ w) ⌝ }
     ensures { λ r. ⌜ r ≡ restOf w payload ⌝ }
 {
-    let mut j = w;
-    let mut p = payload;
-    while 0 < j {
-        let top = pow2(j - 1);
-        if p < top {
-            return j;
-        }
-        p -= top;
-        j -= 1;
-    }
-    0
+    // what is lacking to all ones begins with the same bit
+    let lack = pow2(w) - payload - 1;
+    32 - u32::leading_zeros(lack)
 }
 
 pub fn length_of(payload: u32, w: u32) -> u32
