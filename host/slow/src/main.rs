@@ -1,6 +1,8 @@
-//! Times of the slow calls on tables filled to the load limit, from 2^12 to 2^20 slots, beside one
-//! pass over the same main words. A filter of start power 10 and F 3 is filled, doubled and filled
-//! again; what is oldest becomes void after four doublings, and is then deleted to fill the queue.
+//! Times of the slow calls on tables filled to the load limit, from 2^12 to 2^20 slots, with an empty
+//! queue and with a long one, beside one pass over the same words. Each size is reached by the same
+//! number of doublings, so that all have as many annex tables, from a filter of F 3 that is filled
+//! before each; what is old becomes void by then, and deletes of voids fill the queue. The last row
+//! is the longest life: start power 3, fifteen annex tables.
 
 #[path = "../../bench/src/clock.rs"]
 mod clock;
@@ -9,55 +11,71 @@ use clock::nanoseconds;
 use exports::*;
 use std::hint::black_box;
 
-const FIRST: u32 = 10;
+const LEAST: u32 = 3;
+const FIRST: u32 = 12;
 const LAST: u32 = 20;
+const DOUBLINGS: u32 = 10;
+const ROUNDS: usize = 7;
 
-/// A filter with its words, and the hashes inserted so far, oldest first.
+/// An odd number: its multiples visit every address once, far from one another.
+const STRIDE: u64 = 0x9e37_79b9_7f4a_7c15;
+
+/// A filter with its words.
+#[derive(Clone)]
 struct Session {
     filter: Filter,
     main: Vec<u32>,
     queue: Vec<u32>,
     annex: Vec<u32>,
-    hashes: Vec<u64>,
-    deleted: usize,
     random: u64,
 }
 
-/// The times of one size in seconds.
+/// The times of one size in seconds, its annex tables, and the queue words deleted to.
 struct Times {
     pass: f64,
     audit: f64,
     audit_queue: f64,
     settle: f64,
     double: f64,
+    tables: usize,
     queued: u32,
 }
 
-fn seconds_since(begun: i64) -> f64 {
+fn timed(work: impl FnOnce() -> u32) -> f64 {
+    let begun = nanoseconds();
+    assert_eq!(black_box(work()), 0, "a call was refused");
     (nanoseconds() - begun) as f64 / 1e9
 }
 
-fn timed(mut work: impl FnMut() -> u32) -> f64 {
-    let begun = nanoseconds();
-    assert_eq!(black_box(work()), 0, "a call was refused");
-    seconds_since(begun)
+/// The best of several rounds.
+fn best(round: impl FnMut(usize) -> f64) -> f64 {
+    (0..ROUNDS).map(round).fold(f64::INFINITY, f64::min)
 }
 
 impl Session {
-    fn new() -> Session {
+    fn new(power: u32) -> Session {
         let mut session = Session {
             filter: Filter::default(),
-            main: vec![0; 1 << FIRST],
-            queue: vec![0; 1 << LAST],
+            main: vec![0; 1 << power],
+            queue: Vec::new(),
             annex: vec![0; 1 << LAST],
-            hashes: Vec::new(),
-            deleted: 0,
             random: 1,
         };
         let (r, [m, q, a], [ml, ql, al]) = session.lent();
         // Pointers and lengths are those of the session's own words.
-        let number = unsafe { kj_start(r, m, ml, q, ql, a, al, FIRST, 3, 0) };
+        let number = unsafe { kj_start(r, m, ml, q, ql, a, al, power, 3, 0) };
         assert_eq!(number, 0);
+        session
+    }
+
+    /// A table of 2^k slots after so many doublings, filled before each and at the end.
+    fn grown(k: u32, doublings: u32) -> Session {
+        let mut session = Session::new(k - doublings);
+        session.fill();
+        for _ in 0..doublings {
+            session.double();
+            session.fill();
+        }
         session
     }
 
@@ -68,10 +86,14 @@ impl Session {
     }
 
     fn next_hash(&mut self) -> u64 {
-        self.random = self.random.wrapping_add(0x9e37_79b9_7f4a_7c15);
+        self.random = self.random.wrapping_add(STRIDE);
         let x = (self.random ^ (self.random >> 30)).wrapping_mul(0xbf58_476d_1ce4_e5b9);
         let x = (x ^ (x >> 27)).wrapping_mul(0x94d0_49bb_1331_11eb);
         x ^ (x >> 31)
+    }
+
+    fn queued(&self) -> u32 {
+        self.filter.numbers[5]
     }
 
     /// Inserts until the load limit.
@@ -83,21 +105,56 @@ impl Session {
             if unsafe { kj_insert(r, m, ml, q, ql, a, al, hash) } != 0 {
                 return;
             }
-            self.hashes.push(hash);
         }
     }
 
-    /// Deletes the oldest hashes until so many queue words are in use, or a sixteenth of all are gone.
-    fn withdraw(&mut self, words: u32) {
-        let most = self.deleted + self.hashes.len() / 16;
-        while self.filter.numbers[5] < words && self.deleted < most {
-            let hash = self.hashes[self.deleted];
-            self.deleted += 1;
+    /// One delete at each address, of any hash; whether the queue was full at one.
+    fn delete_at_each(&mut self) -> bool {
+        let k = self.filter.numbers[0];
+        for i in 0..1u64 << k {
+            let address = i.wrapping_mul(STRIDE) & ((1 << k) - 1);
+            let hash = self.next_hash() << k | address;
             let (r, [m, q, a], [ml, ql, al]) = self.lent();
             // As above.
             let number = unsafe { kj_delete(r, m, ml, q, ql, a, al, hash) };
-            assert_eq!(number, 0, "a held hash was not found");
+            assert!([0, 6, 7].contains(&number), "delete answered {number}");
+            if number == 7 {
+                return true;
+            }
         }
+        false
+    }
+
+    /// Lends half as many queue words as there are slots, deletes until they or the voids are used
+    /// up, and fills the table again.
+    fn fill_queue(&mut self) {
+        self.queue = vec![0; self.main.len() / 2];
+        loop {
+            let before = self.queued();
+            if self.delete_at_each() || self.queued() == before {
+                return self.fill();
+            }
+        }
+    }
+
+    /// The lengths of the annex tables in use.
+    fn tables(&self) -> impl Iterator<Item = usize> + '_ {
+        let places = self.filter.annex.iter().take_while(|place| place[0] != 0);
+        places.map(|place| 1 << place[1])
+    }
+
+    /// One pass over the words that Audit reads.
+    fn pass(&self) -> f64 {
+        let parts = [
+            &self.main[..],
+            &self.queue[..self.queued() as usize],
+            &self.annex[..self.tables().sum()],
+        ];
+        timed(|| {
+            let words = parts.iter().flat_map(|part| part.iter());
+            black_box(words.fold(0u64, |sum, &w| sum + u64::from(w)));
+            0
+        })
     }
 
     fn audit(&mut self) -> f64 {
@@ -122,32 +179,31 @@ impl Session {
         took
     }
 
-    /// One size: filled, audited, withdrawn from, audited, settled, filled, and doubled but for the last.
-    fn measure(&mut self) -> Times {
-        self.fill();
-        let begun = nanoseconds();
-        black_box(self.main.iter().fold(0u64, |sum, &w| sum + u64::from(w)));
-        let pass = seconds_since(begun);
-        let audit = self.audit();
-        self.withdraw(1 << LAST);
-        let queued = self.filter.numbers[5];
-        let audit_queue = self.audit();
-        let settle = self.settle();
-        self.fill();
+    /// The times of a table filled to the load limit. Settle and Double are timed on copies.
+    fn measure(mut self) -> Times {
+        let audit = best(|_| self.audit());
+        self.fill_queue();
+        let mut settled = self.clone();
+        settled.settle();
+        settled.fill();
         let last = self.filter.numbers[0] == LAST;
-        let double = if last { 0.0 } else { self.double() };
         Times {
-            pass,
+            pass: best(|_| self.pass()),
             audit,
-            audit_queue,
-            settle,
-            double,
-            queued,
+            audit_queue: best(|_| self.audit()),
+            settle: best(|_| self.clone().settle()),
+            double: if last {
+                0.0
+            } else {
+                best(|_| settled.clone().double())
+            },
+            tables: self.tables().count(),
+            queued: self.queued(),
         }
     }
 }
 
-/// Milliseconds, and how many times those of half the slots.
+/// Milliseconds, and how many times those of the row before.
 fn cell(now: f64, before: Option<f64>) -> String {
     if now == 0.0 {
         return String::from("-");
@@ -156,27 +212,28 @@ fn cell(now: f64, before: Option<f64>) -> String {
     format!("{:.3} ({ratio})", now * 1000.0)
 }
 
+fn row(k: u32, now: &Times, before: Option<&Times>) -> String {
+    let of = |part: fn(&Times) -> f64| cell(part(now), before.map(part));
+    let cells = [
+        now.tables.to_string(),
+        of(|t| t.pass),
+        of(|t| t.audit),
+        now.queued.to_string(),
+        of(|t| t.audit_queue),
+        of(|t| t.settle),
+        of(|t| t.double),
+    ];
+    format!("| 2^{k} | {} |", cells.join(" | "))
+}
+
 fn main() {
-    println!("| slots | one pass, ms | Audit, empty queue, ms (ratio) | queue words | Audit with them, ms (ratio) | Settle, ms (ratio) | Double, ms (ratio) |");
-    println!("|---|---|---|---|---|---|---|");
-    let mut session = Session::new();
+    println!("| slots | annex tables | one pass, ms (ratio) | Audit, empty queue, ms (ratio) | queue words | Audit with them, ms (ratio) | Settle, ms (ratio) | Double, ms (ratio) |");
+    println!("|---|---|---|---|---|---|---|---|");
     let mut before: Option<Times> = None;
-    for k in FIRST..=LAST {
-        let now = session.measure();
-        if k >= 12 {
-            let of = |part: fn(&Times) -> f64| cell(part(&now), before.as_ref().map(part));
-            let (a, b, s, d) = (
-                of(|t| t.audit),
-                of(|t| t.audit_queue),
-                of(|t| t.settle),
-                of(|t| t.double),
-            );
-            let pass = now.pass * 1000.0;
-            println!(
-                "| 2^{k} | {pass:.3} | {a} | {} | {b} | {s} | {d} |",
-                now.queued
-            );
-        }
+    let sizes = (FIRST..=LAST).map(|k| (k, DOUBLINGS.min(k - LEAST)));
+    for (k, doublings) in sizes.chain([(LAST, LAST - LEAST)]) {
+        let now = Session::grown(k, doublings).measure();
+        println!("{}", row(k, &now, before.as_ref()));
         before = Some(now);
     }
 }
