@@ -20,7 +20,7 @@ use Rattle.layout.proofs.Puts.{layout-length, run-room}
 use Rattle.rules.specs.Tables.{Table, mothersOf}
 use Rattle.rules.specs.Sound.{naming, addressRight}
 use Rattle.sound.specs.Reading.{Laid, readAt}
-use Rattle.counts.specs.Tally.{Tallied}
+use Rattle.counts.specs.Tally.{blockSize, Tallied}
 use Rattle.counts.specs.Blocks.{rightFrom, Block}
 use Rattle.sound.proofs.Readings.{run-read}
 
@@ -98,7 +98,7 @@ module _ (words ws : List ℕ) (w : ℕ) (ts : List Table) (base : ℕ) (p : Lai
   pub stand-small : (i k : ℕ) → Stand (addressRight w ts ws) words base (base + i) k → base + i < length words → k < length words
   stand-small i k s h = carry-small words p (base + i) k h (s .here h)
 
-  module _ (i k k′ : ℕ) (good : Bool) (names evens : List ℕ) (s : Stand (addressRight w ts ws) words base (base + i) k) (hc : base + i < length words) (hi : i < 1024)
+  module _ (i k k′ : ℕ) (good : Bool) (names evens : List ℕ) (s : Stand (addressRight w ts ws) words base (base + i) k) (hc : base + i < length words) (hi : i < blockSize)
       (y : Tallied base ws names evens)
       (eg : good ≡ (eqb (count (tombstone w) (readAt words (base + i) k)) (getD evens i 0)
       && eqb (count (void w) (readAt words (base + i) k)) (mothersOf (base + i) ts - getD names i 0))) where
@@ -123,22 +123,22 @@ module _ (words ws : List ℕ) (w : ℕ) (ts : List Table) (base : ℕ) (p : Lai
         record {
           splits =
               split ∙ ap (λ (b : Bool). b && rightFrom (addressRight w ts ws) (base + i + 1) (decode words)) g
-              ∙ ap (λ (b : Bool). b && rightFrom (addressRight w ts ws) (base + 1024) (decode words)) (sym g);
+              ∙ ap (λ (b : Bool). b && rightFrom (addressRight w ts ws) (base + blockSize) (decode words)) (sym g);
           onward = λ e. absurd (no-true (sym g ∙ e));
         }
 
-  module _ (i k : ℕ) (s : Stand (addressRight w ts ws) words base (base + i) k) (hi : i ≤ 1024) where
+  module _ (i k : ℕ) (s : Stand (addressRight w ts ws) words base (base + i) k) (hi : i ≤ blockSize) where
     pub stand-out : length words ≤ base + i → Block (addressRight w ts ws) (decode words) base true k
     stand-out h =
         record {
           splits =
-              s .gone ∙ right-out words p (addressRight w ts ws) (base + i) h ∙ sym (right-out words p (addressRight w ts ws) (base + 1024) (omega arith));
+              s .gone ∙ right-out words p (addressRight w ts ws) (base + i) h ∙ sym (right-out words p (addressRight w ts ws) (base + blockSize) (omega arith));
           onward = λ e l. absurd (omega (arith, same-size words p));
         }
 
-    pub stand-end : 1024 ≤ i → Block (addressRight w ts ws) (decode words) base true k
+    pub stand-end : blockSize ≤ i → Block (addressRight w ts ws) (decode words) base true k
     stand-end h =
-        let z : base + i ≡ base + 1024 = omega arith in
+        let z : base + i ≡ base + blockSize = omega arith in
         record {
           splits = s .gone ∙ ap (λ (c : ℕ). rightFrom (addressRight w ts ws) c (decode words)) z;
           onward = λ e l. s .here (omega (arith, same-size words p)) ∙ ap (carry (decode words)) z;
@@ -152,15 +152,15 @@ module _ (words : List ℕ) (f : ℕ → List ℕ → Bool) (p : Laid words) whe
 
   module _ (base k : ℕ) (s : Stand f words 0 base k) where
     module _ (good : Bool) (k′ : ℕ) (b : Block f (decode words) base good k′) where
-      pub blocks-on : good ≡ true → Stand f words 0 (base + 1024) k′
+      pub blocks-on : good ≡ true → Stand f words 0 (base + blockSize) k′
       blocks-on g =
           record {
             here = λ h. b .onward g (omega (arith, same-size words p));
-            gone = s .gone ∙ b .splits ∙ ap (λ (x : Bool). x && rightFrom f (base + 1024) (decode words)) g;
+            gone = s .gone ∙ b .splits ∙ ap (λ (x : Bool). x && rightFrom f (base + blockSize) (decode words)) g;
           }
 
       pub blocks-off : good ≡ false → false ≡ rightFrom f 0 (decode words)
-      blocks-off g = sym (s .gone ∙ b .splits ∙ ap (λ (x : Bool). x && rightFrom f (base + 1024) (decode words)) g)
+      blocks-off g = sym (s .gone ∙ b .splits ∙ ap (λ (x : Bool). x && rightFrom f (base + blockSize) (decode words)) g)
 
     pub blocks-end : length words ≤ base → true ≡ rightFrom f 0 (decode words)
     blocks-end h = sym (s .gone ∙ right-out words p f base h)

@@ -72,7 +72,7 @@ bit-le : (b : Bool) → bit b ≤ 1
 bit-le true = omega arith
 bit-le false = omega arith
 
-count-le : (p : ℕ) (l : List ℕ) → count p l ≤ length l
+pub count-le : (p : ℕ) (l : List ℕ) → count p l ≤ length l
 unfolding count
 count-le p [] = omega arith
 count-le p (x ∷ l) = omega (arith, count-le p l, bit-le (eqb p x))

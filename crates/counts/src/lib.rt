@@ -1,9 +1,10 @@
 // The audit of the counts: tombstones and voids of every address against queue words and mother hashes.
 ghost use mathlib.Core.Path.{_≡_};
-ghost use mathlib.Core.Bool.{_&&_};
+ghost use mathlib.Core.Bool.{false, _&&_};
+ghost use mathlib.Core.List.{[]};
 ghost use Prim.Native.Nat.{_+_, _-_, _/_, _%_, _^_, _≤_, _<_};
 ghost use lib.Dec.{T, eqb};
-ghost use lib.ListN.{length};
+ghost use lib.ListN.{length, take};
 ghost use Rattle.lists.specs.Runs.{count};
 ghost use Rattle.slots.specs.Payload.{tombstone, void};
 ghost use Rattle.layout.specs.Decode.{decode};
@@ -11,22 +12,24 @@ ghost use Rattle.layout.specs.Document.{carry};
 ghost use Rattle.directory.specs.Places.{placesInUse, directoryRight, wordsTaken};
 ghost use Rattle.rules.specs.Tables.{matching, mothersOf, tables};
 ghost use Rattle.sound.specs.Reading.{Laid, readAt};
-ghost use Rattle.counts.specs.Tally.{Bin, Tallied};
+ghost use Rattle.counts.specs.Tally.{blockSize, Tallied, Others};
 ghost use Rattle.counts.specs.Blocks.{addressTest, rightFrom, Block};
 
-// The bin of a queue word in a block of addresses from `base` on.
-fn bin(w: u32, base: u32) -> usize
-    requires { ⌜ base ≤ 1048576 ⌝ }
-    ensures { λ r. ⌜ Bin base (w / 2) r ⌝ }
+// How many addresses a block has. One pass over the queue counts the words of one block, in counters on the stack.
+const BLOCK: usize = 8192;
+
+// The number of the block of address a.
+fn block_of(a: u32) -> u32
+    ensures { λ r. ⌜ r ≡ a / blockSize ⌝ }
 {
-    let a = w / 2;
-    if a < base {
-        return 1024;
-    }
-    if a < base + 1024 {
-        return (a - base) as usize;
-    }
-    1024
+    a / BLOCK as u32
+}
+
+// The place of address a in its block.
+fn place_of(a: u32) -> usize
+    ensures { λ r. ⌜ (r ≡ a % blockSize) × (r < blockSize) ⌝ }
+{
+    (a % BLOCK as u32) as usize
 }
 
 fn even(w: u32) -> u32
@@ -35,32 +38,65 @@ fn even(w: u32) -> u32
     1 - w % 2
 }
 
-pub struct Tally {
-    pub names: [u32; 1025],
-    pub evens: [u32; 1025],
-}
-
-// How many queue words name each address of the block, and how many of them are even.
-fn tally_block(queue: &[u32], base: u32) -> Tally
-    requires { ⌜ (length (now queue) ≤ 1048576) × (base ≤ 1048576) ⌝ }
-    ensures { λ r. ⌜ Tallied base (now (queue .entry)) (r .names) (r .evens) ⌝ }
+// Whether one of the words from..to names an address of the block. There is no branch in the loop, so that the compiler can test several words at once.
+fn names_block(queue: &[u32], from: usize, to: usize, base: u32) -> bool
+    requires { ⌜ (from ≤ to) × (to ≤ length (now queue)) × (length (now queue) ≤ 1048576) ⌝ }
+    ensures { λ r. ⌜ (r ≡ false → Others base (now (queue .entry)) from to) ⌝ }
 {
-    let n = queue.len();
-    let mut names = [0u32; 1025];
-    let mut evens = [0u32; 1025];
-    let mut q: usize = 0;
-    while q < n {
-        let w = queue[q];
-        let i = bin(w, base);
-        let e = even(w);
-        names[i] = names[i] + 1;
-        evens[i] = evens[i] + e;
+    let block = block_of(base);
+    let mut any = false;
+    let mut q = from;
+    while q < to {
+        let b = block_of(queue[q] / 2);
+        any = any | (b == block);
         q = q + 1;
     }
-    Tally {
-        names: names,
-        evens: evens,
+    any
+}
+
+// Adds the words from..to to the counters of the block.
+fn tally_words(
+    queue: &[u32],
+    from: usize,
+    to: usize,
+    base: u32,
+    names: &mut [u32],
+    evens: &mut [u32],
+)
+    requires { ⌜ (from ≤ to) × (to ≤ length (now queue)) × (length (now queue) ≤ 1048576) × (base % blockSize ≡ 0)
+        × Tallied base (take from (now queue)) (now names) (now evens) ⌝ }
+    ensures { λ r. ⌜ Tallied base (take to (now (queue .entry))) (now (names .exit)) (now (evens .exit)) ⌝ }
+{
+    let block = block_of(base);
+    let mut q = from;
+    while q < to {
+        let w = queue[q];
+        let b = block_of(w / 2);
+        if b == block {
+            let i = place_of(w / 2);
+            let e = even(w);
+            names[i] = names[i] + 1;
+            evens[i] = evens[i] + e;
+        }
+        q = q + 1;
     }
+}
+
+// How many queue words name each address of the block, and how many of them are even. Most words are of other blocks, and are passed over 16 at a time.
+fn tally_block(queue: &[u32], base: u32, names: &mut [u32], evens: &mut [u32])
+    requires { ⌜ (length (now queue) ≤ 1048576) × (base % blockSize ≡ 0) × Tallied base [] (now names) (now evens) ⌝ }
+    ensures { λ r. ⌜ Tallied base (now (queue .entry)) (now (names .exit)) (now (evens .exit)) ⌝ }
+{
+    let n = queue.len();
+    let mut q: usize = 0;
+    while q + 16 <= n {
+        let end = q + 16;
+        if names_block(queue, q, end, base) {
+            tally_words(queue, q, end, base, names, evens);
+        }
+        q = end;
+    }
+    tally_words(queue, q, n, base, names, evens);
 }
 
 // How many mother hashes of one annex table match address c.
@@ -166,16 +202,16 @@ fn block_right(
     base: usize,
     waiting: usize,
 ) -> Checked
-    requires { ⌜ Laid (now words) × (base < length (now words)) × (length (now words) ≤ 1048576) × (1 ≤ w) × (w ≤ 26) × (length (now queue) ≤ 1048576)
+    requires { ⌜ Laid (now words) × (base % blockSize ≡ 0) × (base < length (now words)) × (length (now words) ≤ 1048576) × (1 ≤ w) × (w ≤ 26) × (length (now queue) ≤ 1048576)
         × T (directoryRight 20 places) × (wordsTaken (placesInUse places) ≤ length (now annex)) × (waiting ≡ carry (decode (now words)) base) ⌝ }
     ensures { λ r. ⌜ Block (addressTest w places (now (annex .entry)) (now (queue .entry))) (decode (now (words .entry))) base (r .good) (r .carry) ⌝ }
 {
-    let y = tally_block(queue, base as u32);
-    let names = y.names;
-    let evens = y.evens;
+    let mut names = [0u32; BLOCK];
+    let mut evens = [0u32; BLOCK];
+    tally_block(queue, base as u32, &mut names, &mut evens);
     let mut k = waiting;
     let mut i: usize = 0;
-    while i < 1024 {
+    while i < BLOCK {
         let c = base + i;
         if words.len() <= c {
             return Checked {
@@ -217,7 +253,7 @@ pub fn counts_right(
         let d = block_right(words, w, queue, places, annex, base, k);
         if d.good {
             k = d.carry;
-            base = base + 1024;
+            base = base + BLOCK;
         } else {
             return false;
         }

@@ -1,95 +1,62 @@
--- After q words the counters are those of the first q, each at most q.
-use Prim.Native.Nat.{ℕ, _≤_, _-_}
-use mathlib.Core.Path.{_≡_, refl}
+-- After the groups before q the counters are those of their words; a group of other blocks changes none.
+use Prim.Native.Nat.{_+_, _≤_, _-_}
 use native.Mathlib.Omega.{arith}
 use borrow.Author.Needs.{needs}
-use lib.ListN.{length, take, getD, length-set}
+use lib.ListN.{length, take}
 use Rattle.counts.specs.Tally.{Tallied}
-use Rattle.counts.proofs.Tallies.{zeros, tallied-none, tallied-on, tallied-end, below-on}
+use Rattle.counts.proofs.Tallies.{tallied-skip, tallied-all}
 use Rattle.counts.proofs.tally_block.Statement.{statement}
 use Rattle.counts.proofs.tally_block.Tie as tie
 
 abbrev Inv-loop : tie.InvT-loop
-Inv-loop queue base n names₀ evens₀ q₀ names evens q =
-    (q ≤ n) × (length names ≡ 1025) × (length evens ≡ 1025) × ((j : ℕ) → getD names j 0 ≤ q) × ((j : ℕ) → getD evens j 0 ≤ q)
-    × Tallied base (take q queue) names evens
+Inv-loop queue base names₀ evens₀ n q₀ names evens q = (q ≤ n) × Tallied base (take q queue) names evens
 
 abbrev μ-loop : tie.MeasureT-loop
-μ-loop queue base n names₀ evens₀ q₀ names evens q = n - q
+μ-loop queue base names₀ evens₀ n q₀ names evens q = n - q
 
 loop-holds : tie.Need-loop-holds Inv-loop μ-loop
-loop-holds c = (
-  omega arith,
-  refl,
-  refl,
-  λ j. omega (arith, zeros 1025 j),
-  λ j. omega (arith, zeros 1025 j),
-  tallied-none _ (c .before .args .queue .now) _ _ (zeros 1025) (zeros 1025),
-)
+loop-holds c = (omega arith, c .before .before .before .pre .2)
 
-mul-w : tie.Need-mul-w Inv-loop μ-loop
-mul-w c = search needs
+add-loop : tie.Need-add-loop Inv-loop μ-loop
+add-loop c = search needs
 
-shared-slice-read-w : tie.Need-shared-slice-read-w Inv-loop μ-loop
-shared-slice-read-w c = search needs
+add-end : tie.Need-add-end Inv-loop μ-loop
+add-end c = search needs
 
-bin-requires : tie.Need-bin-requires Inv-loop μ-loop
-bin-requires c κs = search needs
+names-block-requires : tie.Need-names-block-requires Inv-loop μ-loop
+names-block-requires c κs = search needs
 
-even-requires : tie.Need-even-requires Inv-loop μ-loop
-even-requires c κs = search needs
-
-mul-names : tie.Need-mul-names Inv-loop μ-loop
-mul-names c = search needs
-
-array-read-names : tie.Need-array-read-names Inv-loop μ-loop
-array-read-names c = search needs
-
-add-names : tie.Need-add-names Inv-loop μ-loop
-add-names c = record { fits = omega (arith, c .before .before .before .before .loop .inv .3 (c .before .bin .result)) }
-
-mul-names-2 : tie.Need-mul-names-2 Inv-loop μ-loop
-mul-names-2 c = search needs
-
-array-write-names : tie.Need-array-write-names Inv-loop μ-loop
-array-write-names c = search needs
-
-mul-evens : tie.Need-mul-evens Inv-loop μ-loop
-mul-evens c = search needs
-
-array-read-evens : tie.Need-array-read-evens Inv-loop μ-loop
-array-read-evens c = search needs
-
-add-evens : tie.Need-add-evens Inv-loop μ-loop
-add-evens c = record { fits = omega (arith, c .before .before .before .before .loop .inv .4 (c .before .bin .result)) }
-
-mul-evens-2 : tie.Need-mul-evens-2 Inv-loop μ-loop
-mul-evens-2 c = search needs
-
-array-write-evens : tie.Need-array-write-evens Inv-loop μ-loop
-array-write-evens c = search needs
-
-add-q : tie.Need-add-q Inv-loop μ-loop
-add-q c = search needs
+tally-words-requires : tie.Need-tally-words-requires Inv-loop μ-loop
+tally-words-requires c κs = search needs
 
 loop-less : tie.Need-loop-less Inv-loop μ-loop
 loop-less c = search needs
 
 loop-again : tie.Need-loop-again Inv-loop μ-loop
-loop-again c =
-    let l = c .before .before .before .before .loop in
-    let i = c .before .bin .result in
-    let a = c .before .before .before .before .before .before .args in (
-      omega arith,
-      simp length-set (l .inv .1),
-      simp length-set (l .inv .2),
-      below-on (l .names) (l .q) i 1 (omega arith) (l .inv .3),
-      below-on (l .evens) (l .q) i (c .even .result) (omega arith) (l .inv .4),
-      tallied-on (a .base) (a .queue .now) (l .names) (l .evens) (l .q) i (c .even .result) (l .inv .1) (l .inv .2) (omega arith) (c .before .bin .ensures) (c .even .ensures .0) (l .inv .5),
-    )
+loop-again c = (omega arith, search needs)
+
+loop-less-2 : tie.Need-loop-less-2 Inv-loop μ-loop
+loop-less-2 c = search needs
+
+loop-again-2 : tie.Need-loop-again-2 Inv-loop μ-loop
+loop-again-2 c =
+    let l = c .before .before .before .loop in
+    let start = c .before .before .before .before .before .before .before in
+    let a = start .args in
+    let h : l .q + 16 ≤ length (a .queue .now) = omega arith in
+    (omega arith, tallied-skip (a .base) (a .queue .now) (l .names) (l .evens) (l .q) 16 (start .pre .1) h (c .before .names-block .ensures (c .if1 .left)) (l .inv .1))
+
+tally-words-requires-2 : tie.Need-tally-words-requires-2 Inv-loop μ-loop
+tally-words-requires-2 c κs = search needs
+
+same-length : tie.Need-same-length Inv-loop μ-loop
+same-length c = search needs
+
+same-length-2 : tie.Need-same-length-2 Inv-loop μ-loop
+same-length-2 c = search needs
 
 returns : tie.Need-returns Inv-loop μ-loop
-returns c = search (needs, tallied-end)
+returns c = search (needs, tallied-all)
 
 pub tally-block-spec : {M : Type 1} → statement M
 tally-block-spec =
@@ -98,21 +65,15 @@ tally-block-spec =
     Inv-loop
     μ-loop
     loop-holds
-    mul-w
-    shared-slice-read-w
-    bin-requires
-    even-requires
-    mul-names
-    array-read-names
-    add-names
-    mul-names-2
-    array-write-names
-    mul-evens
-    array-read-evens
-    add-evens
-    mul-evens-2
-    array-write-evens
-    add-q
+    add-loop
+    add-end
+    names-block-requires
+    tally-words-requires
     loop-less
     loop-again
+    loop-less-2
+    loop-again-2
+    tally-words-requires-2
+    same-length
+    same-length-2
     returns)
