@@ -1,9 +1,11 @@
 -- Each test answers for what is left of the state, and the last for the counts.
-use mathlib.Core.Path.{sym}
+use mathlib.Core.Path.{_≡_, refl, sym, _∙_}
+use lib.ListN.{take}
 use lib.Seq.{length-take-le}
 use borrow.Author.Needs.{needs}
 use Rattle.counts.proofs.InUse.{directory-20}
 use Rattle.counts.proofs.Stored.{power-20, room-1}
+use Rattle.audit.specs.Queue.{addressesBelow}
 use Rattle.audit.proofs.Wholes.{below-limit, part-small, so-laid, no-table, no-annex, no-queue, all-counts}
 use Rattle.audit.proofs.state_right.Statement.{statement}
 use Rattle.audit.proofs.state_right.Tie as tie
@@ -27,10 +29,16 @@ counts-right-requires : tie.Need-counts-right-requires
 counts-right-requires c κs = (search (needs, so-laid), search (needs, room-1), search (needs, power-20), search needs, search needs, search (needs, part-small), search (needs, directory-20), search needs)
 
 returns : tie.Need-returns
-returns c = search (needs, all-counts)
+returns c =
+    let a = c .before .before .before .before .before .before .before .before .before .before .before .before .args in
+    let named : c .before .before .queue-right .result ≡ addressesBelow (a .k) (take (a .queued) (a .queue .now)) = c .before .before .queue-right .ensures ∙ refl in
+    search (needs, all-counts)
 
 returns-2 : tie.Need-returns-2
-returns-2 c = search (needs, no-queue)
+returns-2 c =
+    let a = c .before .before .before .before .before .before .before .before .before .before .before .args in
+    let named : c .before .queue-right .result ≡ addressesBelow (a .k) (take (a .queued) (a .queue .now)) = c .before .queue-right .ensures ∙ refl in
+    search (needs, no-queue)
 
 returns-3 : tie.Need-returns-3
 returns-3 c = search (needs, no-annex)

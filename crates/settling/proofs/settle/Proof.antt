@@ -30,11 +30,11 @@ same-length-2 : tie.Need-same-length-2
 same-length-2 c = search needs
 
 returns : tie.Need-returns
-returns c =
+returns c r numbers =
     let at-take-tombstones = c .before .before .before in
     let at-settle-words = at-take-tombstones .before .before .before .before .before .before .before in
     let start = at-settle-words .before .before .before .before .before .before in
-    leaves (start .pre) _ _ _ _ (at-settle-words .settle-words .ensures) _ _ (at-take-tombstones .take-tombstones .ensures) _ (c .trimmed .ensures)
+    leaves (start .pre) _ _ _ _ (at-settle-words .settle-words .ensures) _ _ (at-take-tombstones .take-tombstones .ensures) _ (c .trimmed .ensures) r numbers
 
 pub settle-spec : {M : Type 1} → statement M
 settle-spec =
