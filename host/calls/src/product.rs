@@ -28,13 +28,15 @@ impl Guarded {
         self.all[GUARDS..].as_mut_ptr()
     }
 
-    /// The words, after looking at the guards.
-    fn words(&self) -> Vec<u32> {
+    /// Gives the words back, after looking at the guards.
+    fn give_back(&self, words: &mut Vec<u32>) -> Result<(), String> {
         let (before, rest) = self.all.split_at(GUARDS);
-        let (words, after) = rest.split_at(self.count);
-        let kept = before.iter().chain(after).all(|&word| word == GUARD);
-        assert!(kept, "a call wrote outside the words lent to it");
-        words.to_vec()
+        let (lent, after) = rest.split_at(self.count);
+        if before.iter().chain(after).any(|&word| word != GUARD) {
+            return Err(String::from("a call wrote outside the words lent to it"));
+        }
+        *words = lent.to_vec();
+        Ok(())
     }
 }
 
@@ -66,7 +68,7 @@ fn take(filter: &Filter) -> Record {
 }
 
 /// Makes the call on the state, and gives its number. Double and the exported Query have functions of their own.
-pub fn call(state: &mut State, on: &Call) -> u32 {
+pub fn call(state: &mut State, on: &Call) -> Result<u32, String> {
     let mut filter = lend(&state.record);
     let mut lent = [&state.main, &state.queue, &state.annex].map(|words| Guarded::new(words));
     let counts = [lent[0].count, lent[1].count, lent[2].count];
@@ -86,12 +88,14 @@ pub fn call(state: &mut State, on: &Call) -> u32 {
         }
     };
     state.record = take(&filter);
-    [state.main, state.queue, state.annex] = lent.map(|words| words.words());
-    number
+    lent[0].give_back(&mut state.main)?;
+    lent[1].give_back(&mut state.queue)?;
+    lent[2].give_back(&mut state.annex)?;
+    Ok(number)
 }
 
 /// Double, lent this second main: its number and what it leaves there.
-pub fn double(state: &mut State, second: &[u32]) -> (u32, Vec<u32>) {
+pub fn double(state: &mut State, second: &[u32]) -> Result<(u32, Vec<u32>), String> {
     let mut filter = lend(&state.record);
     let words = [&state.main[..], &state.queue, &state.annex, second];
     let mut lent = words.map(Guarded::new);
@@ -101,9 +105,12 @@ pub fn double(state: &mut State, second: &[u32]) -> (u32, Vec<u32>) {
     // As above, with the second main.
     let number = unsafe { kj_double(r, m, ml, q, ql, a, al, s, sl) };
     state.record = take(&filter);
-    let [main, queue, annex, second] = lent.map(|words| words.words());
-    (state.main, state.queue, state.annex) = (main, queue, annex);
-    (number, second)
+    let mut second = Vec::new();
+    lent[0].give_back(&mut state.main)?;
+    lent[1].give_back(&mut state.queue)?;
+    lent[2].give_back(&mut state.annex)?;
+    lent[3].give_back(&mut second)?;
+    Ok((number, second))
 }
 
 /// The exported Query on these bytes.

@@ -20,7 +20,8 @@
 //! - `calls`: the calls and their refusals;
 //! - `script`: scripts of calls and the output expected from them;
 //! - `cases`: the twelve cases of document 01;
-//! - `random`, `writer`, `builder`, `lives`, `damage`: random scripts.
+//! - `random`, `writer`, `builder`, `lives`, `damage`, `modes`: random scripts;
+//! - `shrink`: the shortest part of a failing list.
 
 pub mod builder;
 pub mod calls;
@@ -28,11 +29,13 @@ pub mod cases;
 pub mod contents;
 pub mod damage;
 pub mod lives;
+pub mod modes;
 pub mod numbers;
 pub mod payload;
 pub mod random;
 pub mod record;
 pub mod script;
+pub mod shrink;
 pub mod state;
 pub mod table;
 pub mod writer;

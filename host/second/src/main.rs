@@ -5,15 +5,13 @@
 //! - `second expect` reads a script and writes the output expected from it.
 
 use second::cases::{cases_script, run_case, twelve_cases};
-use second::damage::{damage, full_queue};
-use second::lives::{large, lives, quick};
+use second::modes;
 use second::script::expected_output;
-use second::writer::Writer;
 use std::io::{self, Read, Write};
 use std::process::ExitCode;
 
 const USAGE: &str = "usage: second cases
-       second script SEED CALLS lives|quick|damage|cases|full|large
+       second script SEED CALLS lives|quick|damage|large|full|cases
        second expect < SCRIPT";
 
 /// Runs the twelve cases and prints how many passed.
@@ -40,17 +38,10 @@ fn cases() -> Result<String, String> {
 fn script(seed: &str, calls: &str, mode: &str) -> Result<String, String> {
     let seed = seed.parse().map_err(|_| "SEED is no number")?;
     let calls = calls.parse().map_err(|_| "CALLS is no number")?;
-    let mut writer = Writer::new(seed, calls);
     match mode {
-        "lives" => lives(&mut writer),
-        "quick" => quick(&mut writer),
-        "damage" => damage(&mut writer),
-        "full" => full_queue(&mut writer),
-        "large" => large(&mut writer),
-        "cases" => return Ok(cases_script()),
-        _ => return Err(format!("no mode is called '{mode}'")),
+        "cases" => Ok(cases_script()),
+        _ => modes::script(seed, calls, mode),
     }
-    Ok(writer.finish())
 }
 
 /// Reads a script and gives the output expected from it.

@@ -75,13 +75,13 @@ fn push_words(line: &mut String, words: &[u32]) {
 }
 
 /// The six numbers of a record, in the order of the script.
-fn record_numbers(state: &State) -> [u32; 6] {
+pub fn record_numbers(state: &State) -> [u32; 6] {
     let r = &state.record;
     [r.k, r.start_power, r.f, r.regime, r.used, r.queue_length]
 }
 
 /// The 45 numbers of the fifteen places.
-fn place_numbers(state: &State) -> Vec<u32> {
+pub fn place_numbers(state: &State) -> Vec<u32> {
     let places = state.record.places.iter();
     places
         .flat_map(|place| [place.length, place.size_power, place.count])

@@ -5,7 +5,6 @@ mod functions;
 mod history;
 mod model;
 mod replay;
-mod shrink;
 
 use crate::tally::Tally;
 use functions::{Functions, PROVED};
@@ -60,7 +59,7 @@ fn one_history(functions: &Functions, history: &History, seed: u64, tally: &mut 
 /// The smallest history found that still differs, in words.
 fn tell(functions: &Functions, history: &History, seed: u64) -> String {
     let differs = |shorter: &History| replay(functions, shorter, 1).is_err();
-    let least = shrink::shrink(history.clone(), differs);
+    let least = history.shrunk(differs);
     let Shape { power, width } = least.shape;
     let mut text = format!("tables: a difference at seed {seed}: 2^{power} slots, width {width}\n");
     for step in &least.steps {
@@ -103,7 +102,7 @@ mod tests {
             .map(|power| History::random(&mut random, Shape { power, width }))
             .find(differs)
             .expect("the fault is found");
-        shrink::shrink(found, differs)
+        found.shrunk(differs)
     }
 
     #[test]

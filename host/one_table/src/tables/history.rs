@@ -4,6 +4,7 @@ use super::model::Model;
 use second::numbers::load_limit;
 use second::payload::{bits_of, length_of, tombstone, void};
 use second::random::Random;
+use second::shrink::shrink;
 
 #[derive(Clone, Copy, Debug)]
 pub enum Step {
@@ -53,6 +54,15 @@ pub struct History {
 }
 
 impl History {
+    /// The shortest history found that still fails.
+    pub fn shrunk(&self, fails: impl Fn(&History) -> bool) -> History {
+        let of = |steps: &[Step]| History {
+            shape: self.shape,
+            steps: steps.to_vec(),
+        };
+        of(&shrink(&self.steps, |steps| fails(&of(steps))))
+    }
+
     /// A table is filled to some load, changed there, and half the time emptied.
     pub fn random(random: &mut Random, shape: Shape) -> History {
         let limit = load_limit(shape.power);

@@ -59,7 +59,7 @@ fn all_rounds(arguments: &Arguments, tally: &mut Tally) {
 fn main() -> ExitCode {
     let words: Vec<String> = std::env::args().skip(1).collect();
     let Some(arguments) = read_arguments(&words) else {
-        eprintln!("usage: compare [--seed S] [--minutes M]");
+        eprintln!("usage: one_table [--seed S] [--minutes M]");
         return ExitCode::from(2);
     };
     let mut tally = Tally::default();
