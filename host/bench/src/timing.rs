@@ -1,52 +1,103 @@
-//! Rounds of two sides, and the row of a table that they make.
+//! Rounds of several sides, and the row of the table that they make.
 
 const ROUNDS: usize = 11;
 
-/// What both sides measure in each round, the ordinary one first in each pair. They take turns in
-/// going first.
-pub fn rounds<T>(mut ordinary: impl FnMut() -> T, mut proved: impl FnMut() -> T) -> Vec<(T, T)> {
-    let round = |index| {
-        if index % 2 == 0 {
-            let theirs = ordinary();
-            (theirs, proved())
-        } else {
-            let ours = proved();
-            (ordinary(), ours)
-        }
-    };
-    (0..ROUNDS).map(round).collect()
+/// The sides, in the order of the columns.
+pub const NAMES: [&str; 5] = ["ordinary", "proved", "C call", "libbloom", "one read"];
+const SIDES: usize = NAMES.len();
+/// The ratios, each of a side to a side.
+const RATIOS: [(&str, usize, usize); 3] = [
+    ("proved / ordinary", 1, 0),
+    ("C call / libbloom", 2, 3),
+    ("C call / one read", 2, 4),
+];
+
+/// What each side measures, if it takes part.
+pub type Sides<'a, T> = [Option<&'a mut dyn FnMut() -> T>; SIDES];
+/// What the sides measured in one round.
+pub type Round<T> = [Option<T>; SIDES];
+
+/// All sides measure in each round, and take turns in going first.
+pub fn rounds<T>(mut sides: Sides<T>) -> Vec<Round<T>> {
+    (0..ROUNDS)
+        .map(|first| one_round(&mut sides, first))
+        .collect()
 }
 
-/// The best nanoseconds of each side, and the median of the rounds' ratios.
+fn one_round<T>(sides: &mut Sides<T>, first: usize) -> Round<T> {
+    let mut times = [const { None }; SIDES];
+    for turn in 0..SIDES {
+        let side = (first + turn) % SIDES;
+        times[side] = sides[side].as_mut().map(|measure| measure());
+    }
+    times
+}
+
+/// A call on a table of 2^k slots at a load, in nanoseconds.
 pub struct Row {
-    ordinary: f64,
-    proved: f64,
-    median: f64,
+    pub call: &'static str,
+    pub k: u32,
+    pub load: &'static str,
+    rounds: Vec<Round<f64>>,
 }
 
 impl Row {
-    pub fn of(times: &[(f64, f64)]) -> Row {
-        let best = |all: &mut dyn Iterator<Item = f64>| all.fold(f64::MAX, f64::min);
-        let mut ratios: Vec<f64> = times.iter().map(|(a, b)| b / a).collect();
-        ratios.sort_by(f64::total_cmp);
+    pub fn new<T: Copy>(
+        call: &'static str,
+        table: (u32, &'static str),
+        rounds: &[Round<T>],
+        part: impl Fn(T) -> Option<f64>,
+    ) -> Row {
+        let (k, load) = table;
+        let of_round = |round: &Round<T>| round.map(|time| time.and_then(&part));
+        let rounds = rounds.iter().map(of_round).collect();
         Row {
-            ordinary: best(&mut times.iter().map(|pair| pair.0)),
-            proved: best(&mut times.iter().map(|pair| pair.1)),
-            median: ratios[ratios.len() / 2],
+            call,
+            k,
+            load,
+            rounds,
         }
     }
 
-    pub fn line(&self, call: &str, table: &str) -> String {
-        let ratio = self.proved / self.ordinary;
-        format!(
-            "| {call:<13} | {table:<11} | {:>8.1} | {:>6.1} | {ratio:>5.2} | {:>6.2} |",
-            self.ordinary, self.proved, self.median
-        )
+    /// The least time of a side, if it took part.
+    pub fn best(&self, side: usize) -> Option<f64> {
+        let times = self.rounds.iter().filter_map(|round| round[side]);
+        times.min_by(f64::total_cmp)
+    }
+
+    /// The median of the rounds' own ratios.
+    fn ratio(&self, of: usize, to: usize) -> Option<f64> {
+        let quotients = self
+            .rounds
+            .iter()
+            .map(|round| Some(round[of]? / round[to]?));
+        let mut ratios: Vec<f64> = quotients.collect::<Option<_>>()?;
+        ratios.sort_by(f64::total_cmp);
+        Some(ratios[ratios.len() / 2])
+    }
+
+    pub fn line(&self) -> String {
+        let cell = |number: Option<f64>, digits: usize| {
+            number.map_or(String::from("-"), |n| format!("{n:.digits$}"))
+        };
+        let times: String = (0..SIDES)
+            .map(|side| format!(" {:>8} |", cell(self.best(side), 1)))
+            .collect();
+        let ratios: String = RATIOS
+            .iter()
+            .map(|&(name, of, to)| format!(" {:>1$} |", cell(self.ratio(of, to), 2), name.len()))
+            .collect();
+        let table = format!("2^{}, {}", self.k, self.load);
+        format!("| {:<13} | {table:<11} |{times}{ratios}", self.call)
     }
 }
 
 pub fn head() -> String {
-    let names = "| call          | table       | ordinary | proved | ratio | median |";
-    let rule = "|---------------|-------------|---------:|-------:|------:|-------:|";
-    format!("{names}\n{rule}")
+    let times: String = NAMES.iter().map(|name| format!(" {name:>8} |")).collect();
+    let ratios: String = RATIOS
+        .iter()
+        .map(|ratio| format!(" {} |", ratio.0))
+        .collect();
+    let rule = String::from("|---|---|") + &"---:|".repeat(SIDES + RATIOS.len());
+    format!("| call          | table       |{times}{ratios}\n{rule}")
 }

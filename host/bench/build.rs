@@ -1,0 +1,4 @@
+// Links Debian's libbloom.
+fn main() {
+    println!("cargo:rustc-link-lib=bloom");
+}
