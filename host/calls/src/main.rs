@@ -18,18 +18,20 @@ use std::time::{Duration, SystemTime, UNIX_EPOCH};
 use words::{Wish, USAGE};
 
 /// The scripts of the gate: a mode, its seeds and the calls of each.
-const FIXED: [(&str, std::ops::Range<u64>, u32); 3] = [
+const FIXED: [(&str, std::ops::Range<u64>, u32); 4] = [
     ("lives", 1..9, 10_000),
     ("quick", 1..5, 10_000),
     ("damage", 1..9, 10_000),
+    ("adversarial", 1..5, 10_000),
 ];
 
 /// The modes that `--minutes` plays in turn: the calls of a script, and of how many seeds one has
 /// it. Those that take the second program long are few.
-const IN_TURN: [(&str, u32, u64); 5] = [
+const IN_TURN: [(&str, u32, u64); 6] = [
     ("lives", 2_000, 1),
     ("quick", 2_000, 1),
     ("damage", 2_000, 1),
+    ("adversarial", 2_000, 1),
     ("large", 150, 50),
     ("full", 10, 50),
 ];

@@ -31,7 +31,7 @@ pub fn damage(writer: &mut Writer) {
 }
 
 /// Changes one thing.
-fn harm(state: &mut State, random: &mut Random) {
+pub fn harm(state: &mut State, random: &mut Random) {
     match random.below(16) {
         0..=1 => change_word(&mut state.main, random),
         2 => change_annex_word(state, random),

@@ -20,9 +20,11 @@
 //! - `calls`: the calls and their refusals;
 //! - `script`: scripts of calls and the output expected from them;
 //! - `cases`: the twelve cases of document 01;
-//! - `random`, `writer`, `builder`, `lives`, `damage`, `modes`: random scripts;
+//! - `random`, `writer`, `builder`, `lives`, `damage`, `adversarial`, `modes`: random
+//!   scripts;
 //! - `shrink`: the shortest part of a failing list.
 
+pub mod adversarial;
 pub mod builder;
 pub mod calls;
 pub mod cases;

@@ -11,7 +11,7 @@ use std::io::{self, Read, Write};
 use std::process::ExitCode;
 
 const USAGE: &str = "usage: second cases
-       second script SEED CALLS lives|quick|damage|large|full|cases
+       second script SEED CALLS lives|quick|damage|adversarial|large|full|cases
        second expect < SCRIPT";
 
 /// Runs the twelve cases and prints how many passed.

@@ -1,14 +1,16 @@
 //! The kinds of random scripts by their names.
 
+use crate::adversarial::adversarial;
 use crate::damage::{damage, full_queue};
 use crate::lives::{large, lives, quick};
 use crate::writer::Writer;
 
 /// Every kind of random script.
-pub const MODES: [(&str, fn(&mut Writer)); 5] = [
+pub const MODES: [(&str, fn(&mut Writer)); 6] = [
     ("lives", lives),
     ("quick", quick),
     ("damage", damage),
+    ("adversarial", adversarial),
     ("large", large),
     ("full", full_queue),
 ];

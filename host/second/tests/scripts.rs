@@ -1,10 +1,12 @@
 //! Scripts hold only calls whose outcome is determined, and have the length
 //! asked for.
 
+use second::adversarial::adversarial;
 use second::damage::{damage, full_queue};
 use second::lives::{lives, quick};
-use second::script::expected_output;
+use second::script::{expected_output, Call};
 use second::writer::Writer;
+use second::State;
 
 /// The script of one kind and the output expected from it.
 fn replay(fill: fn(&mut Writer), seed: u64, calls: u32) -> (String, String) {
@@ -61,6 +63,23 @@ fn damage_meets_every_refusal() {
     for number in [0, 2, 3, 4, 5, 6, 7, 8, 9, 10] {
         assert!(answered(&output, number) > 0, "no answer {number}");
     }
+}
+
+/// Every answer but Start's own refusal, and tables that wrap.
+#[test]
+fn adversarial_histories_meet_the_limits() {
+    let (script, output) = replay(adversarial, 1, 4000);
+    for number in 0..=10 {
+        assert!(answered(&output, number) > 0, "no answer {number}");
+    }
+    let mut state = State::default();
+    let mut wraps = 0;
+    for line in script.lines() {
+        let call = Call::parse(line).expect("a good line");
+        call.perform(&mut state);
+        wraps += usize::from(state.main.first().is_some_and(|word| word & 4 != 0));
+    }
+    assert!(wraps > 100, "only {wraps} calls leave a table that wraps");
 }
 
 #[test]
