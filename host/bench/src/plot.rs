@@ -141,3 +141,57 @@ pub fn picture(rows: &[Row], powers: &[u32]) -> String {
     }
     text + "</svg>\n"
 }
+
+#[cfg(test)]
+mod tests {
+    use super::*;
+
+    const POWERS: [u32; 2] = [12, 20];
+
+    fn panel_at_the_left() -> Panel {
+        Panel {
+            left: 0.0,
+            top: 0.0,
+            powers: (12, 20),
+        }
+    }
+
+    #[test]
+    fn the_frame_ends_at_the_outer_ticks_and_powers() {
+        let panel = panel_at_the_left();
+        assert!(panel.y(TICKS[0]) == HEIGHT && panel.y(TICKS[TICKS.len() - 1]).abs() < 1e-9);
+        assert_eq!(
+            (panel.x(12), panel.x(16), panel.x(20)),
+            (0.0, WIDTH / 2.0, WIDTH)
+        );
+    }
+
+    #[test]
+    fn names_do_not_cover_each_other() {
+        let text = names(&panel_at_the_left(), vec![(51.0, 1), (50.0, 0), (90.0, 4)]);
+        let places = ["y=\"54.0\"", "y=\"68.0\"", "y=\"94.0\""];
+        let lines: Vec<&str> = text.lines().filter(|line| line.contains("<text")).collect();
+        assert_eq!(lines.len(), 3);
+        for ((line, place), name) in lines
+            .iter()
+            .zip(places)
+            .zip(["ordinary", "proved", "one read"])
+        {
+            assert!(line.contains(place) && line.contains(name), "{line}");
+        }
+    }
+
+    /// A line for each side in each of four panels, but for sides that took no part.
+    #[test]
+    fn every_line_is_drawn() {
+        let times = [[Some(10.0), Some(20.0), Some(40.0), Some(30.0), None]];
+        let of = |(call, load, _): (&'static str, &'static str, &str)| {
+            POWERS.map(|k| Row::new(call, (k, load), &times, Some))
+        };
+        let rows: Vec<Row> = PANELS.into_iter().flat_map(of).collect();
+        let text = picture(&rows, &POWERS);
+        for (style, lines) in STYLES.iter().zip([4, 4, 4, 4, 0]) {
+            assert_eq!(text.matches(&format!("{style}/>")).count(), 2 * lines);
+        }
+    }
+}

@@ -101,3 +101,42 @@ pub fn head() -> String {
     let rule = String::from("|---|---|") + &"---:|".repeat(SIDES + RATIOS.len());
     format!("| call          | table       |{times}{ratios}\n{rule}")
 }
+
+#[cfg(test)]
+mod tests {
+    use super::*;
+
+    fn row(rounds: &[Round<f64>]) -> Row {
+        Row::new("hit, words", (12, "half"), rounds, Some)
+    }
+
+    #[test]
+    fn best_times_and_median_ratios() {
+        let round = |ordinary, proved| [Some(ordinary), Some(proved), None, None, None];
+        let row = row(&[round(2.0, 3.0), round(1.0, 5.0), round(4.0, 8.0)]);
+        assert_eq!(
+            (row.best(0), row.best(1), row.best(2)),
+            (Some(1.0), Some(3.0), None)
+        );
+        assert_eq!(row.ratio(1, 0), Some(2.0));
+        assert_eq!(row.ratio(2, 0), None);
+        assert_eq!(row.line().matches(" - |").count(), 3 + 2);
+    }
+
+    /// Each side goes first once in five rounds, and none is left out.
+    #[test]
+    fn sides_take_turns() {
+        let order = std::cell::RefCell::new(Vec::new());
+        let note = |side: usize| {
+            order.borrow_mut().push(side);
+            side
+        };
+        let (mut first, mut last) = (|| note(0), || note(4));
+        let rounds = rounds([Some(&mut first), None, None, None, Some(&mut last)]);
+        assert_eq!(rounds.len(), ROUNDS);
+        assert!(rounds
+            .iter()
+            .all(|round| *round == [Some(0), None, None, None, Some(4)]));
+        assert_eq!(order.borrow()[..4], [0, 4, 4, 0]);
+    }
+}
