@@ -97,17 +97,16 @@ pub fn rows(table: &Filled, load: &'static str) -> Vec<Row> {
     ]);
     let same = [&theirs[..], &ours, session.main()].map(|words| words == table.words);
     assert_eq!(same, [true; 3], "the words differ");
-    let mut older = Session::new(k, held.len(), &table.older);
-    let renewed = rounds([
-        None,
-        None,
-        Some(&mut || rejuvenations(&mut older, table)),
-        None,
-        None,
-    ]);
     vec![
         Row::new("insert", (k, load), &both, |times| Some(times.insert)),
         Row::new("delete", (k, load), &both, |times| times.remove),
-        Row::new("rejuvenate", (k, load), &renewed, Some),
+        rejuvenate_row(table, load),
     ]
+}
+
+fn rejuvenate_row(table: &Filled, load: &'static str) -> Row {
+    let mut session = Session::new(table.k, table.held.len(), &table.older);
+    let mut call = || rejuvenations(&mut session, table);
+    let rounds = rounds([None, None, Some(&mut call), None, None]);
+    Row::new("rejuvenate", (table.k, load), &rounds, Some)
 }
