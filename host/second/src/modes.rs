@@ -5,8 +5,11 @@ use crate::damage::{damage, full_queue};
 use crate::lives::{large, lives, quick};
 use crate::writer::Writer;
 
+/// What fills a script with calls of one kind.
+type Fill = fn(&mut Writer);
+
 /// Every kind of random script.
-pub const MODES: [(&str, fn(&mut Writer)); 6] = [
+pub const MODES: [(&str, Fill); 6] = [
     ("lives", lives),
     ("quick", quick),
     ("damage", damage),
