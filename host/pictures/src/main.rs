@@ -1,13 +1,18 @@
 //! `host/show`: the states of a script as pictures.
 
+mod anatomy;
 mod picture;
 mod play;
 #[path = "../../calls/src/product.rs"]
 mod product;
+mod slips;
 mod svg;
 mod terminal;
+mod training;
+mod walk;
 mod words;
 
+use play::Player;
 use std::fs;
 use std::io::{self, Read};
 use std::path::Path;
@@ -17,6 +22,7 @@ const USAGE: &str = "\
 usage: host/show < SCRIPT                print the state after each call
        host/show --last < SCRIPT         print the state after the last call only
        host/show --svg FOLDER < SCRIPT   write the state after each call to FOLDER/0001.svg and so on
+       host/show --slip NAME ..          the same with a slip of the training, such as settling/void_at_c_too
 
 A script is one call a line, as words or as the numbers of host/second; '#' begins a remark.
 
@@ -42,29 +48,29 @@ fn script() -> Result<String, String> {
 }
 
 /// Every state in the terminal.
-fn show() -> Result<(), String> {
-    play::each(&script()?, play::proved, |played| {
-        print!("{}", terminal::text(&picture::picture(played)));
+fn show(player: Player) -> Result<(), String> {
+    play::each(&script()?, player, |played| {
+        print!("{}", terminal::text(&picture::picture(&played, &[])));
     })
 }
 
 /// The last state in the terminal.
-fn show_last() -> Result<(), String> {
-    let played = play::all(&script()?, play::proved)?;
+fn show_last(player: Player) -> Result<(), String> {
+    let played = play::all(&script()?, player)?;
     if let Some(last) = played.last() {
-        print!("{}", terminal::text(&picture::picture(last)));
+        print!("{}", terminal::text(&picture::picture(last, &[])));
     }
     Ok(())
 }
 
 /// Every state as a file.
-fn write_svg(folder: &str) -> Result<(), String> {
+fn write_svg(folder: &str, player: Player) -> Result<(), String> {
     fs::create_dir_all(folder).map_err(|fault| format!("{folder}: {fault}"))?;
     let (mut count, mut fault) = (0, None);
-    play::each(&script()?, play::proved, |played| {
+    play::each(&script()?, player, |played| {
         count += 1;
         let file = Path::new(folder).join(format!("{count:04}.svg"));
-        if let Err(told) = fs::write(&file, svg::document(&[picture::picture(played)])) {
+        if let Err(told) = fs::write(&file, svg::document(&[picture::picture(&played, &[])])) {
             fault = Some(format!("{}: {told}", file.display()));
         }
     })?;
@@ -72,20 +78,40 @@ fn write_svg(folder: &str) -> Result<(), String> {
     fault.map_or(Ok(()), Err)
 }
 
-fn main() -> ExitCode {
-    let arguments: Vec<String> = std::env::args().skip(1).collect();
-    let words: Vec<&str> = arguments.iter().map(String::as_str).collect();
-    let result = match words[..] {
-        [] => show(),
-        ["--last"] => show_last(),
-        ["--svg", folder] => write_svg(folder),
+/// What host/training asks for.
+fn train(words: &[&str]) -> Result<(), String> {
+    match *words {
+        ["write", root] => training::write(Path::new(root)),
+        ["check", root] => training::check(Path::new(root)),
+        ["prover", root] => training::check_quotations(Path::new(root)),
+        ["replays", root, folder] => training::write_replays(Path::new(root), Path::new(folder)),
+        ["edit", root, name] => training::edit(Path::new(root), name),
+        _ => Err(String::from(
+            "training write|check|prover ROOT, replays ROOT FOLDER, edit ROOT NAME",
+        )),
+    }
+}
+
+/// Chooses by the words of the command line.
+fn run(words: &[&str], player: Player) -> Result<(), String> {
+    match words {
+        [] => show(player),
+        ["--last"] => show_last(player),
+        ["--svg", folder] => write_svg(folder, player),
+        ["--slip", name, rest @ ..] => run(rest, slips::named(name)?),
+        ["training", what @ ..] => train(what),
         ["--help"] => {
             print!("{USAGE}");
             Ok(())
         }
         _ => Err(String::from(USAGE)),
-    };
-    match result {
+    }
+}
+
+fn main() -> ExitCode {
+    let arguments: Vec<String> = std::env::args().skip(1).collect();
+    let words: Vec<&str> = arguments.iter().map(String::as_str).collect();
+    match run(&words, play::proved) {
         Ok(()) => ExitCode::SUCCESS,
         Err(text) => {
             eprintln!("{}", text.trim_end());

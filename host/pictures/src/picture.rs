@@ -76,7 +76,7 @@ pub struct Picture {
 }
 
 /// The entry of a word in a table with payloads of width W.
-fn entry_of(word: u32, width: u32) -> Option<Entry> {
+pub fn entry_of(word: u32, width: u32) -> Option<Entry> {
     let payload = word / 8;
     if word == 0 {
         return None;
@@ -143,15 +143,15 @@ fn slots_of(words: &[u32], width: u32) -> Vec<Slot> {
     (0..words.len()).map(slot).collect()
 }
 
-/// The rows that are shown: all of a short table; of a long one those that are not empty, and of very
-/// many the ones nearest to the slot that the call is about.
-fn shown_rows(words: &[u32], focus: usize) -> Vec<usize> {
+/// The rows that are shown: all of a short table; of a long one those that are not empty or are shown
+/// beside it, and of very many the ones nearest to the slot that the call is about.
+fn shown_rows(words: &[u32], beside: &[&[u32]], focus: usize) -> Vec<usize> {
     let count = words.len() / ROW;
-    let used = |row: &usize| {
-        words[row * ROW..(row + 1) * ROW]
-            .iter()
-            .any(|&word| word != 0)
+    let in_use = |table: &[u32], row: usize| {
+        let mut slots = table[row * ROW..(row + 1) * ROW].iter();
+        slots.any(|&word| word != 0)
     };
+    let used = |&row: &usize| in_use(words, row) || beside.iter().any(|table| in_use(table, row));
     let mut rows: Vec<usize> = (0..count).collect();
     if words.len() > SHOWN_WHOLE {
         rows.retain(used);
@@ -179,11 +179,11 @@ fn gap(words: &[u32], from: usize, to: usize) -> Option<Row> {
 }
 
 /// One table with its rows and gaps.
-fn grid(title: String, words: &[u32], width: u32, focus: usize) -> Grid {
+fn grid(title: String, words: &[u32], width: u32, shown: &[usize]) -> Grid {
     let slots = slots_of(words, width);
     let mut rows = Vec::new();
     let mut next = 0;
-    for row in shown_rows(words, focus) {
+    for &row in shown {
         rows.extend(gap(words, next, row * ROW));
         next = (row + 1) * ROW;
         rows.push(Row::Slots(slots[row * ROW..next].to_vec()));
@@ -203,12 +203,8 @@ fn annex_grid(state: &State, index: usize, hash: u64) -> Grid {
         "annex table {}: mother hashes of {b} bits, {n} slots, {count} stored",
         index + 1
     );
-    let mut grid = grid(
-        title,
-        words,
-        ANNEX_WIDTH,
-        canonical_slot(hash, place.size_power),
-    );
+    let shown = shown_rows(words, &[], canonical_slot(hash, place.size_power));
+    let mut grid = grid(title, words, ANNEX_WIDTH, &shown);
     for row in &mut grid.rows {
         if let Row::Slots(slots) = row {
             slots.iter_mut().for_each(|slot| note_hash(slot, &place));
@@ -264,8 +260,8 @@ fn numbers_of(state: &State) -> String {
     )
 }
 
-/// The picture of what a call left. A record out of range tells no table, and none is shown.
-pub fn picture(played: &Played) -> Picture {
+/// The picture of what a call left, which shows the rows of the states beside it too. A record out of range tells no table, and none is shown.
+pub fn picture(played: &Played, beside: &[&State]) -> Picture {
     let state = &played.state;
     let heading = played.heading();
     if !state.record.in_range() || !state.lengths_fit() {
@@ -281,7 +277,12 @@ pub fn picture(played: &Played) -> Picture {
     let hash = played.hash().unwrap_or_default();
     let focus = canonical_slot(hash, state.record.k);
     let title = format!("main table: {} slots", state.main.len());
-    let mut grids = vec![grid(title, &state.main, state.record.width(), focus)];
+    let mains = beside.iter().map(|other| &other.main[..]);
+    let alike: Vec<&[u32]> = mains
+        .filter(|main| main.len() == state.main.len())
+        .collect();
+    let shown = shown_rows(&state.main, &alike, focus);
+    let mut grids = vec![grid(title, &state.main, state.record.width(), &shown)];
     for index in 0..state.record.in_use().len() {
         grids.push(annex_grid(state, index, hash));
     }
@@ -318,11 +319,12 @@ mod tests {
     #[test]
     fn a_long_table_shows_few_rows() {
         let mut words = vec![0; 1 << 12];
-        assert!(shown_rows(&words, 0).is_empty());
+        assert!(shown_rows(&words, &[], 0).is_empty());
         words[4095] = 9;
-        assert_eq!(shown_rows(&words, 0), [511]);
+        assert_eq!(shown_rows(&words, &[], 0), [511]);
+        assert_eq!(shown_rows(&[0; 1 << 12], &[&words], 0), [511]);
         let words = vec![9; 1 << 12];
-        let rows = shown_rows(&words, 0);
+        let rows = shown_rows(&words, &[], 0);
         assert_eq!(rows.len(), MOST_ROWS);
         assert!(rows.contains(&0) && rows.contains(&511));
     }

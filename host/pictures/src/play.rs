@@ -36,12 +36,15 @@ impl Played {
     }
 }
 
-/// Who carries a call out on a state: the number it answers, or nothing where the line is no call.
-pub type Player = fn(&mut State, &Call) -> Option<u32>;
+/// What a call answers: a number, or nothing where the line is no call; or why it can't be played.
+pub type Answered = Result<Option<u32>, String>;
+
+/// Who carries a call out on a state.
+pub type Player = fn(&mut State, &Call) -> Answered;
 
 /// The proved library. After an accepted Double the second main is the main.
-pub fn proved(state: &mut State, call: &Call) -> Option<u32> {
-    match call {
+pub fn proved(state: &mut State, call: &Call) -> Answered {
+    Ok(match call {
         Call::Load(loaded) => {
             state.clone_from(loaded);
             None
@@ -61,7 +64,7 @@ pub fn proved(state: &mut State, call: &Call) -> Option<u32> {
         }
         Call::Part(_) | Call::Show | Call::End => None,
         _ => Some(product::call(state, call)),
-    }
+    })
 }
 
 /// A Start in words is lent empty words, of the main as many as it has to have. A script in numbers lends its own.
@@ -73,25 +76,38 @@ fn lend_for(state: &mut State, line: &str, call: &Call) {
     }
 }
 
-/// Plays a script with a player, and hands each call to `see` as it is played.
-pub fn each(script: &str, player: Player, mut see: impl FnMut(&Played)) -> Result<(), String> {
-    let mut state = State::default();
-    for (index, line) in script.lines().enumerate() {
-        let read = words::read(line, state.main.len());
-        let call = match read.map_err(|fault| format!("line {}: {fault}", index + 1))? {
-            None | Some(Call::Show | Call::Part(_)) => continue,
-            Some(Call::End) => break,
+/// The calls of a script, one by one, on one state.
+struct Session {
+    state: State,
+    player: Player,
+}
+
+impl Session {
+    /// Plays one line; nothing where it is no call.
+    fn line(&mut self, line: &str) -> Result<Option<Played>, String> {
+        let call = match words::read(line, self.state.main.len())? {
+            None | Some(Call::Show | Call::Part(_) | Call::End) => return Ok(None),
             Some(call) => call,
         };
-        lend_for(&mut state, line, &call);
-        let number = player(&mut state, &call);
-        let played = Played {
+        lend_for(&mut self.state, line, &call);
+        let number = (self.player)(&mut self.state, &call)?;
+        let state = self.state.clone();
+        Ok(Some(Played {
             call,
             number,
             state,
-        };
-        see(&played);
-        state = played.state;
+        }))
+    }
+}
+
+/// Plays a script with a player, and hands each call to `see` as it is played.
+pub fn each(script: &str, player: Player, mut see: impl FnMut(Played)) -> Result<(), String> {
+    let state = State::default();
+    let mut session = Session { state, player };
+    for (index, line) in script.lines().enumerate() {
+        let played = session.line(line);
+        let played = played.map_err(|fault| format!("line {}: {fault}", index + 1))?;
+        played.into_iter().for_each(&mut see);
     }
     Ok(())
 }
@@ -99,12 +115,6 @@ pub fn each(script: &str, player: Player, mut see: impl FnMut(&Played)) -> Resul
 /// All of what a script gives.
 pub fn all(script: &str, player: Player) -> Result<Vec<Played>, String> {
     let mut found = Vec::new();
-    each(script, player, |played| {
-        found.push(Played {
-            call: played.call.clone(),
-            number: played.number,
-            state: played.state.clone(),
-        });
-    })?;
+    each(script, player, |played| found.push(played))?;
     Ok(found)
 }

@@ -14,8 +14,11 @@ const TOP: usize = 46;
 const BOTTOM: usize = TOP + 76;
 const RUN: usize = BOTTOM + 9;
 const ROW_HEIGHT: usize = RUN + 32;
-/// Bits in one line of a slot.
-const BITS_IN_LINE: usize = 9;
+/// Bits in one line of a slot, large and small.
+const BITS_IN_LINE: usize = 11;
+const DENSE_IN_LINE: usize = 17;
+/// An address of more letters than this is written smaller.
+const ADDRESS: usize = 12;
 
 /// The elements drawn so far, and how far down the next one goes.
 pub struct Canvas {
@@ -66,6 +69,12 @@ impl Canvas {
         self.label(class, MARGIN, self.y, text);
     }
 
+    /// Room of this height, and where it begins.
+    pub fn down(&mut self, height: usize) -> usize {
+        self.y += height;
+        self.y - height
+    }
+
     /// The document, with its title and description.
     pub fn finish(self, title: &str, description: &str) -> String {
         let height = self.y + 14;
@@ -86,9 +95,10 @@ const STYLE: &str = r##"<defs><marker id="tip" viewBox="0 0 8 8" refX="7" refY="
 <style>
 text{font-family:'DejaVu Sans',Verdana,Arial,sans-serif;font-size:11px;fill:#222}
 .heading{font-size:15px;font-weight:bold}.title{font-size:12px;font-weight:bold}
-.middle,.address,.bits,.small,.faint,.word{text-anchor:middle}
+.middle,.address,.bits,.dense,.small,.faint,.word{text-anchor:middle}
 .address{font-size:12px;font-weight:bold}.small{font-size:10px}.faint{font-size:10px;fill:#777}
 .bits{font-family:'DejaVu Sans Mono',Menlo,Consolas,monospace;font-size:13px;font-weight:bold}
+.dense{font-family:'DejaVu Sans Mono',Menlo,Consolas,monospace;font-size:9px;font-weight:bold}
 .word{font-family:'DejaVu Sans Mono',Menlo,Consolas,monospace;font-size:10px}
 .paper{fill:#fff}.slot{fill:none;stroke:#bbb}.plate{fill:#e4e4e4;stroke:#222}
 .entry{fill:#fff;stroke:#222;stroke-width:1.6}.void{fill:#f4f4f4;stroke:#222;stroke-width:1.6}
@@ -130,24 +140,23 @@ fn shape(canvas: &mut Canvas, slot: &Slot, at: (usize, usize)) {
     }
 }
 
-/// The lines of text inside an entry: its bits or kind, then its own two bits or its mother hash.
-fn inside(slot: &Slot) -> (Vec<String>, Vec<String>) {
-    let text = entry_text(slot);
-    let letters: Vec<char> = text.chars().collect();
-    let bits = letters
-        .chunks(BITS_IN_LINE)
-        .map(|line| line.iter().collect());
-    let mut small = Vec::new();
-    if slot.is_shifted() {
-        small.push(String::from("shifted"));
-    }
-    if slot.is_continuation() {
-        small.push(String::from("continuation"));
-    }
-    if !slot.note.is_empty() {
-        small.push(slot.note.clone());
-    }
-    (bits.collect(), small)
+/// The lines of text inside an entry, each with its class and height: its bits or kind, then its own two bits or its mother hash.
+fn inside(slot: &Slot) -> Vec<(&'static str, usize, String)> {
+    let text: Vec<char> = entry_text(slot).chars().collect();
+    let (class, height, letters) = match text.len() {
+        0..=BITS_IN_LINE => ("bits", 14, BITS_IN_LINE),
+        _ => ("dense", 10, DENSE_IN_LINE),
+    };
+    let bits = text.chunks(letters).map(|line| line.iter().collect());
+    let mut lines: Vec<_> = bits.map(|line| (class, height, line)).collect();
+    let flags = [
+        (slot.is_shifted(), "shifted"),
+        (slot.is_continuation(), "continuation"),
+        (!slot.note.is_empty(), &slot.note),
+    ];
+    let told = flags.iter().filter(|(holds, _)| *holds);
+    lines.extend(told.map(|(_, text)| ("small", 11, String::from(*text))));
+    lines
 }
 
 /// One slot: frame, entry and word.
@@ -165,16 +174,12 @@ fn draw_slot(canvas: &mut Canvas, slot: &Slot, y: usize) {
         return;
     }
     shape(canvas, slot, (x + 5, y + TOP + 5));
-    let (bits, small) = inside(slot);
-    let lines = 14 * bits.len() + 11 * small.len();
-    let mut line = y + TOP + 5 + (BOTTOM - TOP - 22).saturating_sub(lines) / 2;
-    for text in &bits {
-        line += 14;
-        canvas.label("bits", middle, line - 2, text);
-    }
-    for text in &small {
-        line += 11;
-        canvas.label("small", middle, line - 2, text);
+    let lines = inside(slot);
+    let height: usize = lines.iter().map(|(_, height, _)| height).sum();
+    let mut line = y + TOP + 5 + (BOTTOM - TOP - 22).saturating_sub(height) / 2;
+    for (class, height, text) in &lines {
+        line += height;
+        canvas.label(class, middle, line - 2, text);
     }
 }
 
@@ -186,12 +191,13 @@ fn draw_address(canvas: &mut Canvas, slot: &Slot, y: usize) {
         return;
     }
     canvas.frame("plate", (left_of(slot) + 6, y), (CELL - 12, PLATE), 3);
-    canvas.label(
-        "address",
-        middle,
-        y + 14,
-        &format!("{} occupied", slot.address),
-    );
+    let text = format!("{} occupied", slot.address);
+    let class = if text.len() > ADDRESS {
+        "small"
+    } else {
+        "address"
+    };
+    canvas.label(class, middle, y + 14, &text);
 }
 
 /// The arrow from an occupied address to the slot where its run starts: in the same row a curve, else

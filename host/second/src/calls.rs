@@ -207,6 +207,13 @@ pub fn settle(state: &mut State) -> u32 {
     for word in contents.queue.clone() {
         contents.settle_address(&state.record, word as usize / 2);
     }
+    end_settle(state, contents);
+    DONE
+}
+
+/// "At the end all tombstones go, the queue length is 0, and empty tables at
+/// the end of the directory are dropped".
+pub fn end_settle(state: &mut State, mut contents: Contents) {
     contents.main.take_all(tombstone(state.record.width()));
     contents.write(state);
     state.record.used = contents.main.entries() as u32;
@@ -215,7 +222,6 @@ pub fn settle(state: &mut State) -> u32 {
         place.count = table.entries() as u32;
     }
     drop_empty_tables(&mut state.record);
-    DONE
 }
 
 /// "empty tables at the end of the directory are dropped".
