@@ -85,9 +85,9 @@ fn train(words: &[&str]) -> Result<(), String> {
         ["check", root] => training::check(Path::new(root)),
         ["prover", root] => training::check_quotations(Path::new(root)),
         ["replays", root, folder] => training::write_replays(Path::new(root), Path::new(folder)),
-        ["edit", root, name] => training::edit(Path::new(root), name),
+        ["edit", folder, file] => training::edit(Path::new(folder), Path::new(file)),
         _ => Err(String::from(
-            "training write|check|prover ROOT, replays ROOT FOLDER, edit ROOT NAME",
+            "training write|check|prover ROOT, replays ROOT FOLDER, edit CRATE EDIT",
         )),
     }
 }

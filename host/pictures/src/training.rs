@@ -191,33 +191,48 @@ fn slip_text(block: &Block, right: &[Played], slipped: &[Played]) -> String {
     );
     text.push_str("| | Right | With the slip |\n|---|---|---|\n");
     for index in pictured(&block.script) {
-        let (r, s) = (&right[index], &slipped[index]);
-        let call = words::written(&r.call);
-        text.push_str(&format!(
-            "| words after `{call}` | {} | {} |\n",
-            words_text(&r.state),
-            words_text(&s.state)
-        ));
+        let call = words::written(&right[index].call);
+        let (r, s) = (
+            words_text(&right[index].state),
+            words_text(&slipped[index].state),
+        );
+        let s = if r == s { "the same" } else { &s };
+        text.push_str(&format!("| words after `{call}` | {r} | {s} |\n"));
     }
     text + &answer_rows(right, slipped)
 }
 
-/// The pictured states of one or two plays, each play with words before its headings.
-fn pictures(block: &Block, plays: &[(&str, &[Played])]) -> Vec<Picture> {
-    let marked = pictured(&block.script);
-    let states = plays
-        .iter()
-        .flat_map(|(_, played)| marked.iter().map(|&index| &played[index].state));
-    let beside: Vec<&State> = states.collect();
-    let one = |before: &str, played: &Played| {
+/// Pictures of states one under another, each with words before its heading. A row that one shows is shown by all.
+fn pictures(states: &[(&str, &Played)]) -> Vec<Picture> {
+    let beside: Vec<&State> = states.iter().map(|(_, played)| &played.state).collect();
+    let one = |(before, played): &(&str, &Played)| {
         let mut shown = picture::picture(played, &beside);
         shown.heading = format!("{before}{}", shown.heading);
         shown
     };
-    let shown = plays
-        .iter()
-        .flat_map(|(before, played)| marked.iter().map(move |&index| (before, &played[index])));
-    shown.map(|(before, played)| one(before, played)).collect()
+    states.iter().map(one).collect()
+}
+
+/// The pictures of a block without a slip.
+fn case_pictures(block: &Block, played: &[Played]) -> String {
+    let marked = pictured(&block.script).into_iter();
+    let states: Vec<(&str, &Played)> = marked.map(|index| ("", &played[index])).collect();
+    svg::document(&pictures(&states))
+}
+
+/// The pictures of a block with a slip: one where both leave the same, else the right one and the other.
+fn slip_pictures(block: &Block, right: &[Played], slipped: &[Played], slip: &str) -> String {
+    let with = format!("with the slip {slip}: ");
+    let mut states: Vec<(&str, &Played)> = Vec::new();
+    for index in pictured(&block.script) {
+        let (r, s) = (&right[index], &slipped[index]);
+        if r.state == s.state && r.number == s.number {
+            states.push(("right, and with the slip: ", r));
+        } else {
+            states.extend([("right: ", r), (&with, s)]);
+        }
+    }
+    svg::document(&pictures(&states))
 }
 
 /// The first entry of each pictured state, in its bits.
@@ -259,19 +274,20 @@ fn noticed_rows(block: &Block, right: &[Played]) -> Result<String, String> {
 fn made_of(block: &Block) -> Result<(String, File), String> {
     let told = |fault: String| format!("{}: {fault}", block.name);
     let right = play::all(&block.script, play::proved).map_err(told)?;
-    let shown = pictures(block, &[("", &right)]);
     let (text, drawn) = match &block.shown {
-        Shown::Table => (case_text(block, &right), svg::document(&shown)),
+        Shown::Table => (case_text(block, &right), case_pictures(block, &right)),
         Shown::Anatomy => (case_text(block, &right), anatomy_of(block, &right)),
         Shown::EverySlip => {
             let rows = noticed_rows(block, &right).map_err(told)?;
-            (case_text(block, &right) + &rows, svg::document(&shown))
+            (
+                case_text(block, &right) + &rows,
+                case_pictures(block, &right),
+            )
         }
         Shown::Slip(slip) => {
             let slipped = play::all(&block.script, slips::named(slip)?).map_err(told)?;
-            let before = format!("with the slip {slip}: ");
-            let both = pictures(block, &[("right: ", &right), (&before, &slipped)]);
-            (slip_text(block, &right, &slipped), svg::document(&both))
+            let text = slip_text(block, &right, &slipped);
+            (text, slip_pictures(block, &right, &slipped, slip))
         }
     };
     Ok((text, (format!("{}.svg", block.name), drawn)))
@@ -422,19 +438,34 @@ pub fn check(root: &Path) -> Result<(), String> {
     Ok(())
 }
 
-/// The words lent to a script that the edited program replays.
+/// The queue and annex words lent to the edited program.
 const REPLAYED: (usize, usize) = (8, 32);
+
+/// What the edited program is to begin with, and the calls that it is to make: no slip is about Double, and
+/// crates/replay does not make it, so it begins with what the last accepted Double left.
+fn replayed(played: &[Played]) -> (State, Vec<&Call>) {
+    let doubled = played
+        .iter()
+        .rposition(|p| matches!(p.call, Call::Double(_)) && p.number == Some(0));
+    let (mut state, rest) = match doubled {
+        Some(index) => (played[index].state.clone(), &played[index + 1..]),
+        None => (played[0].state.clone(), played),
+    };
+    state.queue.truncate(REPLAYED.0);
+    state.annex.truncate(REPLAYED.1);
+    let calls = rest.iter().map(|p| &p.call);
+    let others = calls.filter(|call| !matches!(call, Call::Double(_)));
+    (state, others.collect())
+}
 
 /// A block as numbers for crates/replay, with everything shown at the end, and the output of the slip.
 fn replay(block: &Block, slip: &str) -> Result<(String, String), String> {
-    let calls = play::all(&block.script, play::proved)?;
-    let Some(Call::Start(power, ..)) = calls.first().map(|p| &p.call) else {
-        return Err(format!("{}: the first call is no start", block.name));
-    };
-    let lent = State::lent(1 << power, REPLAYED.0, REPLAYED.1);
-    let mut lines = vec![Call::Load(Box::new(lent)).line()];
-    lines.extend(calls.iter().map(|p| p.call.line()));
-    let played = play::all(&lines.join("\n"), slips::named(slip)?)?;
+    let player = slips::named(slip)?;
+    let slipped = play::all(&block.script, player)?;
+    let (state, calls) = replayed(&slipped);
+    let mut lines = vec![Call::Load(Box::new(state)).line()];
+    lines.extend(calls.into_iter().map(Call::line));
+    let played = play::all(&lines.join("\n"), player)?;
     let output = |p: &Played| output_line(&p.call, &Outcome::Number(p.number?), &p.state);
     let mut expected: Vec<String> = played.iter().filter_map(output).collect();
     let last = &played[played.len() - 1].state;
@@ -458,15 +489,13 @@ pub fn write_replays(root: &Path, folder: &Path) -> Result<(), String> {
     write_file(&folder.join("list"), &list)
 }
 
-/// Puts a must-fail edit into the source of a copy of the crates.
-pub fn edit(root: &Path, name: &str) -> Result<(), String> {
-    let (krate, edit) = name.split_once('/').ok_or("an edit is named CRATE/NAME")?;
-    let folder = root.join("crates").join(krate);
-    let lines = read(&folder.join(format!("must-fail/{edit}.edit")))?;
-    let parts: Vec<&str> = lines
+/// Puts an edit, in the form of the must-fail edits, into a crate.
+pub fn edit(folder: &Path, file: &Path) -> Result<(), String> {
+    let lines = read(file)?;
+    let rest = lines
         .lines()
-        .filter_map(|line| Some(line.split_once(": ")?.1))
-        .collect();
+        .filter_map(|line| Some(line.split_once(": ")?.1));
+    let parts: Vec<&str> = rest.collect();
     let path = folder.join(parts[0]);
     let mut source = read(&path)?;
     for change in parts[1..].chunks(2) {
