@@ -5,6 +5,7 @@ mod picture;
 mod play;
 #[path = "../../calls/src/product.rs"]
 mod product;
+mod replays;
 mod slips;
 mod svg;
 mod terminal;
@@ -84,8 +85,8 @@ fn train(words: &[&str]) -> Result<(), String> {
         ["write", root] => training::write(Path::new(root)),
         ["check", root] => training::check(Path::new(root)),
         ["prover", root] => training::check_quotations(Path::new(root)),
-        ["replays", root, folder] => training::write_replays(Path::new(root), Path::new(folder)),
-        ["edit", folder, file] => training::edit(Path::new(folder), Path::new(file)),
+        ["replays", root, folder] => replays::write_replays(Path::new(root), Path::new(folder)),
+        ["edit", folder, file] => replays::edit(Path::new(folder), Path::new(file)),
         _ => Err(String::from(
             "training write|check|prover ROOT, replays ROOT FOLDER, edit CRATE EDIT",
         )),

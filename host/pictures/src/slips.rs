@@ -141,7 +141,7 @@ fn first_word_only(state: &mut State, call: &Call) -> Answered {
     }
 }
 
-/// The run of a hash, its longest match, and whether numbers 2 and 3 do not hold.
+/// The main table, the address of a hash in it, and the length of the hash's longest match.
 fn run_of(state: &State, hash: u64) -> Result<(Table, usize, Option<u32>), String> {
     let table = Table::decode(&state.main).ok_or("the main table is no layout")?;
     let (k, width) = (state.record.k, state.record.width());

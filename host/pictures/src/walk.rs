@@ -5,9 +5,10 @@ use second::numbers::load_limit;
 use second::payload::{canonical_slot, match_length, CONTINUATION, OCCUPIED, SHIFTED};
 use second::State;
 
-/// Where the walk says the run of c begins, and how far on from c.
+/// Where the walk says that the run of c is: `from` slots on from `home`, and `carry` slots on from c.
 struct Run {
-    slot: usize,
+    home: usize,
+    from: usize,
     carry: usize,
 }
 
@@ -27,28 +28,36 @@ fn walk_left(words: &[u32], c: usize) -> (usize, usize) {
 
 /// The slot of run m of those that begin at slot 0 or later.
 fn seek(words: &[u32], m: usize) -> usize {
-    let starts = (0..words.len()).filter(|&slot| words[slot] & CONTINUATION == 0);
-    starts.skip(m).next().unwrap_or(words.len())
+    let mut starts = (0..words.len()).filter(|&slot| words[slot] & CONTINUATION == 0);
+    starts.nth(m).unwrap_or(words.len())
 }
 
 /// The run of c by the slipped walk: right where the entry at c is at home, else counted from slot 0.
 fn locate(words: &[u32], c: usize) -> Run {
     if words[c] & (SHIFTED | CONTINUATION) == 0 {
-        return Run { slot: c, carry: 0 };
+        return Run {
+            home: c,
+            from: 0,
+            carry: 0,
+        };
     }
     let (steps, runs) = walk_left(words, c);
-    let slot = seek(words, runs);
-    let carry = slot.saturating_sub(steps);
-    Run { slot, carry }
+    let from = seek(words, runs);
+    let carry = from.saturating_sub(steps);
+    Run {
+        home: 0,
+        from,
+        carry,
+    }
 }
 
-/// The payloads from a slot on, up to the next run.
-fn payloads(words: &[u32], slot: usize) -> Vec<u32> {
-    let circle = (1..words.len()).map(|step| words[(slot + step) % words.len()]);
-    let more = circle.take_while(|word| word & CONTINUATION != 0);
-    std::iter::once(words[slot % words.len()])
-        .chain(more)
-        .map(|word| word / 8)
+/// The payloads of a run, of which no more are read than once round from its home.
+fn payloads(words: &[u32], run: &Run) -> Vec<u32> {
+    let slots = (run.from..words.len()).map(|step| (run.home + step) % words.len());
+    let first = (run.home + run.from) % words.len();
+    slots
+        .take_while(|&slot| slot == first || words[slot] & CONTINUATION != 0)
+        .map(|slot| words[slot] / 8)
         .collect()
 }
 
@@ -71,12 +80,11 @@ pub fn query(state: &State, hash: u64) -> u32 {
     }
     let (k, width) = (state.record.k, state.record.width());
     let c = canonical_slot(hash, k);
-    let run = locate(&state.main, c);
-    let occupied = state.main[c] & OCCUPIED != 0 && run.slot < state.main.len();
-    let found = occupied
-        && payloads(&state.main, run.slot)
+    let matching = |&payload: &u32| match_length(width, payload, hash, k).is_some();
+    let found = state.main[c] & OCCUPIED != 0
+        && payloads(&state.main, &locate(&state.main, c))
             .iter()
-            .any(|&payload| match_length(width, payload, hash, k).is_some());
+            .any(matching);
     u32::from(found)
 }
 
@@ -128,11 +136,12 @@ pub fn insert(state: &mut State, hash: u64) -> u32 {
     let c = canonical_slot(hash, state.record.k);
     let payload = fresh_payload(&state.record, hash);
     let run = locate(&state.main, c);
+    let smaller = |stored: &&u32| **stored < payload;
     let rank = match state.main[c] & OCCUPIED {
         0 => 0,
-        _ => payloads(&state.main, run.slot)
+        _ => payloads(&state.main, &run)
             .iter()
-            .take_while(|&&stored| stored < payload)
+            .take_while(smaller)
             .count(),
     };
     if run.carry + rank < state.main.len() {
