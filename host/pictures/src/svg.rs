@@ -17,6 +17,8 @@ const ROW_HEIGHT: usize = RUN + 32;
 /// Bits in one line of a slot, large and small.
 const BITS_IN_LINE: usize = 11;
 const DENSE_IN_LINE: usize = 17;
+/// How far a run's line goes out of its row, to go on in another.
+const LEAD: usize = 18;
 /// An address of more letters than this is written smaller.
 const ADDRESS: usize = 12;
 
@@ -251,6 +253,8 @@ fn draw_run(canvas: &mut Canvas, slot: &Slot, y: usize) {
     if !slot.is_continuation() {
         x += 8;
         steps = format!("M{x} {}v6", y + RUN - 6);
+    } else if slot.address % ROW == 0 {
+        x -= LEAD;
     }
     if !slot.goes_on {
         end -= 8;
@@ -261,7 +265,7 @@ fn draw_run(canvas: &mut Canvas, slot: &Slot, y: usize) {
     }
     canvas.path("run", &steps);
     if slot.goes_on && last_of_row {
-        canvas.path("arrow", &format!("M{end} {}h18", y + RUN));
+        canvas.path("arrow", &format!("M{end} {}h{LEAD}", y + RUN));
     }
     let owner = slot
         .owner
