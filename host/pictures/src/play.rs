@@ -50,7 +50,7 @@ pub fn proved(state: &mut State, call: &Call) -> Answered {
             None
         }
         Call::Double(count) => {
-            let (number, second) = product::double(state, &vec![LENT_WORD; *count]);
+            let (number, second) = product::double(state, &vec![LENT_WORD; *count])?;
             if number == 0 {
                 state.main = second;
             }
@@ -63,7 +63,7 @@ pub fn proved(state: &mut State, call: &Call) -> Answered {
             Some(product::query_bytes(*k, *w, *hash, &bytes))
         }
         Call::Part(_) | Call::Show | Call::End => None,
-        _ => Some(product::call(state, call)),
+        _ => Some(product::call(state, call)?),
     })
 }
 
