@@ -1,0 +1,266 @@
+#include "answers.h"
+#include "pages.h"
+#include <inttypes.h>
+#include <stdio.h>
+#include <stdlib.h>
+#include <string.h>
+#include <time.h>
+
+enum { TYPED_CODE = 40, DIGITS = 4 };
+
+static const char list_failed[] =
+    "The list of codes could not be reached. Nothing was changed and your code is not spent. "
+    "Please try again in a minute, or call the office.";
+
+void answer_notice(reply *to, unsigned status, const char *heading, const char *said) {
+  to->status = status;
+  page_notice(&to->body, heading, said);
+}
+
+/* A number of one to four digits. */
+static bool read_number(const char *digits, uint32_t *number) {
+  size_t length = strlen(digits);
+  if (length < 1 || length > DIGITS || strspn(digits, "0123456789") != length)
+    return false;
+  *number = (uint32_t)strtoul(digits, NULL, 10);
+  return true;
+}
+
+static bool read_school(portal *of, const char *digits, school *found) {
+  uint32_t number;
+  return digits && read_number(digits, &number) && board_school(&of->board, number, found);
+}
+
+static void get_front(portal *of, const question *asked, reply *to) {
+  (void)asked;
+  page_front(&to->body, &of->board, time(NULL));
+}
+
+static void get_style(portal *of, const question *asked, reply *to) {
+  (void)of, (void)asked;
+  to->type = "text/css; charset=utf-8";
+  text_add(&to->body, style_sheet);
+}
+
+static void get_post(portal *of, const question *asked, reply *to) {
+  (void)asked;
+  page_post(&to->body, &of->board, &(typed){.posted = -1}, NULL);
+}
+
+static void get_posted(portal *of, const question *asked, reply *to) {
+  school found;
+  if (read_school(of, asked->school, &found))
+    page_posted(&to->body, &found, time(NULL));
+  else
+    answer_notice(to, 400, "No such school", "The address does not name a school of this portal.");
+}
+
+/* What is wrong with the fields of a post, or NULL. */
+static const char *wrong_fields(portal *of, const form *fields, school *chosen, typed *before) {
+  const char *school_digits = form_value(fields, "school");
+  const char *status_given = form_value(fields, "status");
+  const char *code_typed = form_value(fields, "code");
+  status posted;
+  if (read_school(of, school_digits, chosen))
+    before->school = chosen->number;
+  if (status_given && status_read(status_given, &posted))
+    before->posted = (int)posted;
+  if (!school_digits || !status_given || !code_typed || !*code_typed)
+    return "Please choose a school and a status, and type a code.";
+  if (strlen(code_typed) > TYPED_CODE)
+    return "The code is too long. It has four groups of four signs.";
+  before->code = code_typed;
+  if (!before->school)
+    return "Please choose one of the schools in the list.";
+  return before->posted < 0 ? "Please choose one of the three statuses." : NULL;
+}
+
+static void tell_earlier(text *to, const use *earlier) {
+  if (earlier->withdrawn) {
+    text_add(to, "This code was withdrawn by the office ");
+    text_time(to, earlier->at, time(NULL));
+    text_add(to, ". Please use a code of your newest sheet, or call the office.");
+    return;
+  }
+  text_print(to, "This code was used before, to post \"%s\" ", status_word(earlier->posted));
+  text_time(to, earlier->at, time(NULL));
+  text_add(to, ". If that was you, your status is on the page and there is nothing to do. To post "
+               "another status, use the next code on your sheet. If it was not you, please call "
+               "the office.");
+}
+
+static unsigned tell_refusal(text *to, outcome refused, const use *earlier) {
+  switch (refused) {
+  case SPENT:
+    tell_earlier(to, earlier);
+    return 409;
+  case OTHER_SCHOOL:
+    text_add(to, "This code belongs to another school. Please check the school you chose.");
+    return 403;
+  case WRONG_CODE:
+    text_add(to, "This is not a code of the portal. Please compare it with your sheet, sign by "
+                 "sign.");
+    return 403;
+  default:
+    text_add(to, list_failed);
+    return 503;
+  }
+}
+
+static void refuse_post(portal *of, reply *to, unsigned number, const typed *before,
+                        const char *trouble) {
+  to->status = number;
+  page_post(&to->body, &of->board, before, trouble);
+}
+
+static void post_post(portal *of, const question *asked, reply *to) {
+  school chosen;
+  typed before = {.posted = -1};
+  use earlier = {0};
+  const char *wrong = wrong_fields(of, &asked->fields, &chosen, &before);
+  if (wrong) {
+    refuse_post(of, to, 400, &before, wrong);
+    return;
+  }
+  outcome got = portal_post(of, chosen.number, (status)before.posted, before.code, &earlier);
+  if (got == DONE) {
+    to->status = 303; /* so that reloading the next page does not post again */
+    snprintf(to->location, sizeof to->location, "/posted?school=%u", (unsigned)chosen.number);
+    return;
+  }
+  text trouble = {0};
+  unsigned number = tell_refusal(&trouble, got, &earlier);
+  refuse_post(of, to, number, &before, trouble.failed ? list_failed : trouble.chars);
+  text_drop(&trouble);
+}
+
+/* Compares all signs, so that the time taken tells nothing about the word. */
+static bool same_word(const char *word, const char *given) {
+  if (!given || strlen(given) != strlen(word))
+    return false;
+  unsigned differs = 0;
+  for (; *word; word++, given++)
+    differs |= (unsigned char)*word ^ (unsigned char)*given;
+  return differs == 0;
+}
+
+static bool office_may(portal *of, const question *asked, reply *to) {
+  if (asked->from_here && same_word(of->office_word, form_value(&asked->fields, "word")))
+    return true;
+  answer_notice(to, 403, "Not allowed",
+                "This needs the office word, which the server printed when it started, and works "
+                "only on the server's own machine.");
+  return false;
+}
+
+static void get_office(portal *of, const question *asked, reply *to) {
+  (void)of;
+  if (asked->from_here)
+    page_office(&to->body, NULL);
+  else
+    answer_notice(to, 403, "Not allowed", "This page is only for the server's own machine.");
+}
+
+typedef struct tally {
+  unsigned withdrawn, before, wrong, failed;
+} tally;
+
+static void withdraw_one(portal *of, const char *typed_code, tally *count) {
+  switch (portal_withdraw(of, typed_code)) {
+  case DONE:
+    count->withdrawn++;
+    break;
+  case SPENT:
+    count->before++;
+    break;
+  case WRONG_CODE:
+    count->wrong++;
+    break;
+  default:
+    count->failed++;
+  }
+}
+
+static void post_withdraw(portal *of, const question *asked, reply *to) {
+  const char *codes = form_value(&asked->fields, "codes");
+  char list[FORM_BODY + 1], *rest = NULL, said[200];
+  tally count = {0};
+  if (!office_may(of, asked, to))
+    return;
+  snprintf(list, sizeof list, "%s", codes ? codes : "");
+  for (char *one = strtok_r(list, "\r\n,;", &rest); one; one = strtok_r(NULL, "\r\n,;", &rest))
+    withdraw_one(of, one, &count);
+  snprintf(said, sizeof said,
+           "%u withdrawn, %u spent or withdrawn before, %u not genuine, %u failed.",
+           count.withdrawn, count.before, count.wrong, count.failed);
+  to->status = count.failed ? 503 : count.wrong || !(count.withdrawn + count.before) ? 400 : 200;
+  page_office(&to->body, said);
+}
+
+static void post_giveback(portal *of, const question *asked, reply *to) {
+  const char *typed_code = form_value(&asked->fields, "code");
+  if (!office_may(of, asked, to))
+    return;
+  switch (typed_code ? portal_give_back(of, typed_code) : WRONG_CODE) {
+  case DONE:
+    page_office(&to->body, "The code works once more.");
+    return;
+  case NOT_SPENT:
+    to->status = 409;
+    page_office(&to->body, "The code was neither spent nor withdrawn. Nothing was changed.");
+    return;
+  case WRONG_CODE:
+    to->status = 400;
+    page_office(&to->body, "This is not a genuine code. Nothing was changed.");
+    return;
+  default:
+    to->status = 503;
+    page_office(&to->body, list_failed);
+  }
+}
+
+static void post_night(portal *of, const question *asked, reply *to) {
+  if (!office_may(of, asked, to))
+    return;
+  bool well = portal_night(of);
+  to->status = well ? 200 : 503;
+  page_office(&to->body, well ? "The night job is done."
+                              : "The filter is in doubt. Every code is looked up in the list.");
+}
+
+static void get_state(portal *of, const question *asked, reply *to) {
+  if (!asked->from_here) {
+    answer_notice(to, 403, "Not allowed", "This page is only for the server's own machine.");
+    return;
+  }
+  portal_state state = portal_look(of);
+  size_t tables = 0;
+  while (tables < KJ_PLACES && state.filter.annex[tables].length)
+    tables++;
+  to->type = "text/plain; charset=utf-8";
+  text_print(&to->body, "believed %d\nlisted %" PRIu64 "\npower %u\nused %u\nqueue %u\n",
+             state.believed, state.listed, (unsigned)state.filter.k, (unsigned)state.filter.used,
+             (unsigned)state.filter.queue_length);
+  text_print(&to->body, "annex-tables %zu\nqueue-lent %zu\nannex-lent %zu\n", tables,
+             state.queue_words, state.annex_words);
+  text_print(&to->body, "said-no %lu\nsaid-maybe %lu\nbuilt %lu\n", of->said_no, of->said_maybe,
+             of->rebuilt);
+}
+
+const path *path_find(const char *name) {
+  static const path paths[] = {
+      {"/", get_front, NULL},
+      {"/style.css", get_style, NULL},
+      {"/post", get_post, post_post},
+      {"/posted", get_posted, NULL},
+      {"/office", get_office, NULL},
+      {"/withdraw", NULL, post_withdraw},
+      {"/giveback", NULL, post_giveback},
+      {"/night", NULL, post_night},
+      {"/state", get_state, NULL},
+  };
+  for (size_t i = 0; i < sizeof paths / sizeof *paths; i++)
+    if (strcmp(paths[i].name, name) == 0)
+      return &paths[i];
+  return NULL;
+}
