@@ -7,11 +7,13 @@
 ** LIST is the file of the slow list. The night job runs at three o'clock, and on SIGUSR1. */
 #include "web.h"
 #include <errno.h>
-#include <inttypes.h>
+#include <fcntl.h>
+#include <limits.h>
 #include <signal.h>
 #include <stdio.h>
 #include <stdlib.h>
 #include <string.h>
+#include <sys/file.h>
 #include <time.h>
 
 enum { NIGHT_HOUR = 3 };
@@ -54,6 +56,19 @@ static void keep_on(portal *of, const sigset_t *signals) {
   }
 }
 
+/* One server to a list: a second one would spend codes that the first one's filter never sees. The
+** lock ends with the process. */
+static bool only_server(const char *list) {
+  char name[PATH_MAX];
+  int length = snprintf(name, sizeof name, "%s.lock", list);
+  int file =
+      length > 0 && length < (int)sizeof name ? open(name, O_RDWR | O_CREAT | O_CLOEXEC, 0600) : -1;
+  if (file >= 0 && flock(file, LOCK_EX | LOCK_NB) == 0)
+    return true;
+  fprintf(stderr, "portal: %s: can't be had, or another server has it\n", list);
+  return false;
+}
+
 static int serve(const char *list, uint16_t port, keeper_settings settings) {
   static portal of;
   sigset_t signals;
@@ -63,7 +78,7 @@ static int serve(const char *list, uint16_t port, keeper_settings settings) {
   sigaddset(&signals, SIGUSR1);
   pthread_sigmask(SIG_BLOCK, &signals, NULL); /* before any thread, so that all inherit it */
   signal(SIGPIPE, SIG_IGN);
-  if (!portal_open(&of, list, settings))
+  if (!only_server(list) || !portal_open(&of, list, settings))
     return 1;
   web *site = web_open(&of, port);
   if (!site) {

@@ -43,14 +43,21 @@ static bool make_word(char word[OFFICE_WORD]) {
   return true;
 }
 
+static bool open_list(portal *of, const char *path) {
+  of->list = slow_open(path);
+  return of->list && slow_key(of->list, of->key) == SLOW_OK && make_word(of->office_word) &&
+         board_open(&of->board, of->list) == SLOW_OK;
+}
+
 bool portal_open(portal *of, const char *path, keeper_settings settings) {
   memset(of, 0, sizeof *of);
   pthread_mutex_init(&of->writer, NULL);
   front_open(&of->front);
   of->settings = settings;
-  of->list = slow_open(path);
-  return of->list && slow_key(of->list, of->key) == SLOW_OK && make_word(of->office_word) &&
-         board_open(&of->board, of->list) == SLOW_OK && rebuild(of);
+  if (!open_list(of, path))
+    return false;
+  rebuild(of); /* in doubt, the portal works all the same, by the list alone */
+  return true;
 }
 
 void portal_close(portal *of) {
@@ -87,7 +94,7 @@ static outcome not_spent_yet(portal *of, const code *asked, use *earlier) {
 }
 
 /* The transaction has the last word: of two posts of one code that both came this far, the
-** second finds it in the list. */
+** second finds it in the list. By then the filter says maybe, or it is wrong. */
 static outcome spend(portal *of, const code *spent, status posted) {
   int64_t at = time(NULL);
   pthread_mutex_lock(&of->writer);
@@ -96,6 +103,10 @@ static outcome spend(portal *of, const code *spent, status posted) {
     board_post(&of->board, spent->school, posted, at);
     if (front_believed(&of->front))
       show(of, keeper_insert(&of->keeper, spent->hash));
+  }
+  if (number == SLOW_HELD && front_says_no(&of->front, spent->hash)) {
+    fprintf(stderr, "portal: the filter said no to a code in the list\n");
+    rebuild(of);
   }
   pthread_mutex_unlock(&of->writer);
   return of_number(number);
