@@ -5,9 +5,9 @@
 static const struct {
   const char *name, *word, *meaning;
 } statuses[STATUS_COUNT] = {
-    [STATUS_OPEN] = {"open", "Open", "Open as usual"},
-    [STATUS_CLOSED] = {"closed", "Closed", "Closed all day"},
-    [STATUS_LATE] = {"late", "Opens late", "Opens later than usual"},
+    [STATUS_OPEN] = {"open", "Open", "as usual"},
+    [STATUS_CLOSED] = {"closed", "Closed", "all day"},
+    [STATUS_LATE] = {"late", "Opens late", "later than usual"},
 };
 
 const char *status_word(status of) { return of < STATUS_COUNT ? statuses[of].word : "Unknown"; }
