@@ -29,6 +29,12 @@ typedef struct path {
 /* The path of this name, or NULL. */
 const path *path_find(const char *name);
 
+/* The office's, in office.c. */
+answer get_office, get_state, post_withdraw, post_giveback, post_night;
+
+/* What is said when the slow list fails. */
+extern const char list_failed[];
+
 /* A plain page for what is not allowed. */
 void answer_notice(reply *to, unsigned status, const char *heading, const char *said);
 

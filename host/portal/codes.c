@@ -1,9 +1,10 @@
 #include "codes.h"
 #include <ctype.h>
+#include <stdio.h>
 #include <string.h>
 #include <xxhash.h>
 
-enum { SIGNS = 16, NUMBER_SIGNS = 6, CHECK_SIGNS = 10, CHECK_BITS = 50, GROUP = 4 };
+enum { SIGNS = 16, NUMBER_SIGNS = 6, CHECK_SIGNS = 10, CHECK_BITS = 50 };
 
 static const char signs[] = "0123456789ABCDEFGHJKMNPQRSTVWXYZ";
 
@@ -58,10 +59,7 @@ void code_make(code *made, const uint8_t key[CODE_KEY], uint32_t school, uint32_
   memset(made, 0, sizeof *made);
   made->school = school;
   made->serial = serial;
-  for (int i = 0; i < SIGNS; i++)
-    made->text[i + i / GROUP] = plain[i];
-  for (int i = GROUP; i < CODE_TEXT - 1; i += GROUP + 1)
-    made->text[i] = '-';
+  snprintf(made->text, CODE_TEXT, "%.4s-%.4s-%.4s-%.4s", plain, plain + 4, plain + 8, plain + 12);
   made->hash = XXH3_64bits(made->text, CODE_TEXT - 1);
 }
 

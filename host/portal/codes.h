@@ -10,8 +10,7 @@ enum {
   CODE_KEY = 16,          /* bytes of the key that the check values are made with */
   CODE_TEXT = 20,         /* XXXX-XXXX-XXXX-XXXX and the end */
   CODE_SCHOOLS = 1 << 10, /* school numbers are below this */
-  CODE_SERIALS = 1 << 20, /* serial numbers are below this */
-  CODE_TYPED = 64         /* what is typed is refused from this length on */
+  CODE_SERIALS = 1 << 20  /* serial numbers are below this */
 };
 
 typedef struct code {

@@ -7,8 +7,8 @@
 #include <strings.h>
 
 enum {
-  THREADS = 8,
   CONNECTIONS = 800,
+  THREAD_STACK = 524288,
   CONNECTION_MEMORY = 16384, /* bounds the head of a request */
   IDLE_SECONDS = 15,
   BODY_READ = 65536 /* a longer body is not even read to its end */
@@ -144,6 +144,8 @@ static void forget(void *with, struct MHD_Connection *connection, void **own,
   free(*own);
 }
 
+/* A thread for each connection, so that a head who waits for the slow list keeps no parent waiting.
+ */
 web *web_open(portal *of, uint16_t port) {
   web *made = calloc(1, sizeof *made);
   if (!made)
@@ -151,11 +153,12 @@ web *web_open(portal *of, uint16_t port) {
   struct sockaddr_in address = {.sin_family = AF_INET, .sin_port = htons(port)};
   address.sin_addr.s_addr = htonl(INADDR_LOOPBACK);
   made->daemon = MHD_start_daemon(
-      MHD_USE_AUTO | MHD_USE_INTERNAL_POLLING_THREAD, port, NULL, NULL, handle, of,
-      MHD_OPTION_SOCK_ADDR, (struct sockaddr *)&address, MHD_OPTION_THREAD_POOL_SIZE,
-      (unsigned)THREADS, MHD_OPTION_CONNECTION_LIMIT, (unsigned)CONNECTIONS,
-      MHD_OPTION_CONNECTION_MEMORY_LIMIT, (size_t)CONNECTION_MEMORY, MHD_OPTION_CONNECTION_TIMEOUT,
-      (unsigned)IDLE_SECONDS, MHD_OPTION_NOTIFY_COMPLETED, forget, NULL, MHD_OPTION_END);
+      MHD_USE_AUTO | MHD_USE_INTERNAL_POLLING_THREAD | MHD_USE_THREAD_PER_CONNECTION, port, NULL,
+      NULL, handle, of, MHD_OPTION_SOCK_ADDR, (struct sockaddr *)&address,
+      MHD_OPTION_THREAD_STACK_SIZE, (size_t)THREAD_STACK, MHD_OPTION_CONNECTION_LIMIT,
+      (unsigned)CONNECTIONS, MHD_OPTION_CONNECTION_MEMORY_LIMIT, (size_t)CONNECTION_MEMORY,
+      MHD_OPTION_CONNECTION_TIMEOUT, (unsigned)IDLE_SECONDS, MHD_OPTION_NOTIFY_COMPLETED, forget,
+      NULL, MHD_OPTION_END);
   if (made->daemon)
     return made;
   free(made);

@@ -44,6 +44,10 @@ static void codes(void) {
     expect("read", code_read(&read, key, made.text) && memcmp(&made, &read, sizeof made) == 0);
     changed_signs(&made);
   }
+}
+
+static void no_codes(void) {
+  code read;
   const char *others[] = {"", "-", "0000-0000-0000-000", "0000-0000-0000-00000", "U", "\x80", "%s"};
   for (size_t i = 0; i < sizeof others / sizeof *others; i++)
     expect("no code", !code_read(&read, key, others[i]));
@@ -96,6 +100,16 @@ static void held_are_yes(const char *what, front *shown, uint32_t from, uint32_t
   expect(what, all);
 }
 
+static void insert_all(keeper *to, uint32_t from, uint32_t end) {
+  for (uint32_t i = from; i < end; i++)
+    expect("insert", keeper_insert(to, hash_of(i)) == KJ_OK);
+}
+
+static void delete_all(keeper *of, uint32_t from, uint32_t end) {
+  for (uint32_t i = from; i < end; i++)
+    expect("delete", keeper_delete(of, hash_of(i)) == KJ_OK);
+}
+
 /* From eight slots and three bits until codes have no bits left, with memory lent as it goes. */
 static void keepers(keeper_settings settings, bool voids) {
   enum { CODES = 600, BACK = 100 };
@@ -104,12 +118,10 @@ static void keepers(keeper_settings settings, bool voids) {
   front_open(&shown);
   expect("nothing is believed at first", !front_says_no(&shown, 1));
   expect("start", keeper_start(&kept, settings) == KJ_OK);
-  for (uint32_t i = 0; i < CODES; i++)
-    expect("insert", keeper_insert(&kept, hash_of(i)) == KJ_OK);
+  insert_all(&kept, 0, CODES);
   front_show(&shown, &kept);
   held_are_yes("held after doubling", &shown, 0, CODES);
-  for (uint32_t i = 0; i < BACK; i++)
-    expect("delete", keeper_delete(&kept, hash_of(i)) == KJ_OK);
+  delete_all(&kept, 0, BACK);
   expect("a longer queue was lent where needed", (kept.queue_words > 1) == voids);
   expect("a longer annex was lent where needed", (kept.annex_words > 8) == voids);
   expect("night", keeper_night(&kept) == KJ_OK && kept.filter.queue_length == 0);
@@ -153,6 +165,18 @@ static void damaged(const char *list) {
   portal_close(&of);
 }
 
+/* The largest filter, 2^20 slots: full at seven eighths of them, and the refusal is told. */
+static void largest(void) {
+  enum { LIMIT = (1 << 20) - (1 << 17) };
+  keeper kept = {0};
+  expect("start", keeper_start(&kept, (keeper_settings){10, 11, KJ_REGIME_FIXED}) == KJ_OK);
+  insert_all(&kept, 0, LIMIT);
+  expect("largest", kept.filter.k == KJ_POWER_MOST && kept.filter.used == LIMIT);
+  expect("full", keeper_insert(&kept, hash_of(LIMIT)) == KJ_FULL);
+  expect("the night job goes on", keeper_night(&kept) == KJ_OK && kept.filter.used == LIMIT);
+  keeper_drop(&kept);
+}
+
 static void add_school(const char *list) {
   slow *opened = slow_open(list);
   expect("list", opened && slow_add_school(opened, 1, "One") == SLOW_OK);
@@ -166,11 +190,13 @@ int main(int count, char **words) {
   }
   check_values();
   codes();
+  no_codes();
   texts();
   forms();
   keepers((keeper_settings){3, 3, KJ_REGIME_FIXED}, true);
   keepers((keeper_settings){3, 3, KJ_REGIME_WIDENING}, true);
   keepers((keeper_settings){10, 11, KJ_REGIME_FIXED}, false);
+  largest();
   add_school(words[1]);
   damaged(words[1]);
   printf("parts: %ld tried, %ld wrong\n", tried, wrong);
