@@ -38,6 +38,7 @@ static void get_front(portal *of, const question *asked, reply *to) {
 static void get_style(portal *of, const question *asked, reply *to) {
   (void)of, (void)asked;
   to->type = "text/css; charset=utf-8";
+  to->lasting = true;
   text_add(&to->body, style_sheet);
 }
 

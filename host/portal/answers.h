@@ -15,6 +15,7 @@ typedef struct question {
 typedef struct reply {
   unsigned status;
   const char *type;
+  bool lasting;      /* a browser may keep it for an hour */
   char location[32]; /* where to go on, if not empty */
   text body;
 } reply;

@@ -46,7 +46,7 @@ static void add_headers(struct MHD_Response *response, const reply *of, const pa
                           "base-uri 'none'; frame-ancestors 'none'");
   MHD_add_response_header(response, "X-Content-Type-Options", "nosniff");
   MHD_add_response_header(response, "Referrer-Policy", "no-referrer");
-  MHD_add_response_header(response, "Cache-Control", "no-store");
+  MHD_add_response_header(response, "Cache-Control", of->lasting ? "max-age=3600" : "no-store");
   if (*of->location)
     MHD_add_response_header(response, "Location", of->location);
   if (of->status == 405)
