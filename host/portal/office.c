@@ -114,6 +114,6 @@ void get_state(portal *of, const question *asked, reply *to) {
              (unsigned)state.filter.queue_length);
   text_print(&to->body, "annex-tables %zu\nqueue-lent %zu\nannex-lent %zu\n", tables,
              state.queue_words, state.annex_words);
-  text_print(&to->body, "said-no %lu\nsaid-maybe %lu\nbuilt %lu\n", of->said_no, of->said_maybe,
-             of->rebuilt);
+  text_print(&to->body, "said-no %lu\nsaid-maybe %lu\nbuilt %lu\nnights %lu\n", of->said_no,
+             of->said_maybe, of->rebuilt, of->nights);
 }

@@ -155,6 +155,7 @@ outcome portal_give_back(portal *of, const char *typed) {
 bool portal_night(portal *of) {
   pthread_mutex_lock(&of->writer);
   bool well = front_believed(&of->front) ? show(of, keeper_night(&of->keeper)) : rebuild(of);
+  of->nights++;
   pthread_mutex_unlock(&of->writer);
   return well;
 }

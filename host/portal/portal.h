@@ -28,7 +28,7 @@ typedef struct portal {
   keeper_settings settings;
   uint8_t key[CODE_KEY];
   char office_word[OFFICE_WORD];
-  atomic_ulong said_no, said_maybe, rebuilt;
+  atomic_ulong said_no, said_maybe, rebuilt, nights;
 } portal;
 
 /* Figures for the office and for tests. */
