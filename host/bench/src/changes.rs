@@ -91,6 +91,7 @@ pub fn rows(table: &Filled, load: &'static str) -> Vec<Row> {
     let both = rounds([
         Some(&mut || batches(&mut theirs[..], orders, ordinary_remove, ordinary_insert)),
         Some(&mut || batches(&mut ours[..], orders, proved_remove, proved_insert)),
+        None,
         Some(&mut || batches(&mut session, orders, Session::delete, Session::insert)),
         Some(&mut || fills(&mut bloom, table)),
         None,
@@ -107,6 +108,6 @@ pub fn rows(table: &Filled, load: &'static str) -> Vec<Row> {
 fn rejuvenate_row(table: &Filled, load: &'static str) -> Row {
     let mut session = Session::new(table.k, table.held.len(), &table.older);
     let mut call = || rejuvenations(&mut session, table);
-    let rounds = rounds([None, None, Some(&mut call), None, None]);
+    let rounds = rounds([None, None, None, Some(&mut call), None, None]);
     Row::new("rejuvenate", (table.k, load), &rounds, Some)
 }

@@ -6,6 +6,7 @@ mod changes;
 mod clock;
 mod filled;
 mod ordinary;
+mod ordinary_call;
 mod plot;
 mod queries;
 mod session;

@@ -14,6 +14,7 @@ const PANELS: [(&str, &str, &str); 4] = [
 const STYLES: [&str; NAMES.len()] = [
     "stroke=\"#b3541e\" stroke-width=\"1.8\" stroke-dasharray=\"7 4\"",
     "stroke=\"#1f5fa8\" stroke-width=\"1.8\"",
+    "stroke=\"#7a3fa0\" stroke-width=\"1.8\" stroke-dasharray=\"12 3\"",
     "stroke=\"#000000\" stroke-width=\"2.6\"",
     "stroke=\"#3d7d33\" stroke-width=\"1.8\" stroke-dasharray=\"2 3\"",
     "stroke=\"#777777\" stroke-width=\"1.8\" stroke-dasharray=\"9 3 2 3\"",
@@ -168,7 +169,7 @@ mod tests {
 
     #[test]
     fn names_do_not_cover_each_other() {
-        let text = names(&panel_at_the_left(), vec![(51.0, 1), (50.0, 0), (90.0, 4)]);
+        let text = names(&panel_at_the_left(), vec![(51.0, 1), (50.0, 0), (90.0, 5)]);
         let places = ["y=\"54.0\"", "y=\"68.0\"", "y=\"94.0\""];
         let lines: Vec<&str> = text.lines().filter(|line| line.contains("<text")).collect();
         assert_eq!(lines.len(), 3);
@@ -184,13 +185,20 @@ mod tests {
     /// A line for each side in each of four panels, but for sides that took no part.
     #[test]
     fn every_line_is_drawn() {
-        let times = [[Some(10.0), Some(20.0), Some(40.0), Some(30.0), None]];
+        let times = [[
+            Some(10.0),
+            Some(20.0),
+            Some(30.0),
+            Some(50.0),
+            Some(40.0),
+            None,
+        ]];
         let of = |(call, load, _): (&'static str, &'static str, &str)| {
             POWERS.map(|k| Row::new(call, (k, load), &times, Some))
         };
         let rows: Vec<Row> = PANELS.into_iter().flat_map(of).collect();
         let text = picture(&rows, &POWERS);
-        for (style, lines) in STYLES.iter().zip([4, 4, 4, 4, 0]) {
+        for (style, lines) in STYLES.iter().zip([4, 4, 4, 4, 4, 0]) {
             assert_eq!(text.matches(&format!("{style}/>")).count(), 2 * lines);
         }
     }

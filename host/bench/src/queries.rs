@@ -4,6 +4,7 @@ use crate::bloom::Bloom;
 use crate::clock::nanoseconds;
 use crate::filled::{address, Filled, W};
 use crate::ordinary::{self, Words};
+use crate::ordinary_call;
 use crate::session::{query_bytes, Session};
 use crate::timing::{rounds, Row};
 use std::hint::black_box;
@@ -54,6 +55,8 @@ fn words_row(
     let agree = |&hash: &u64| ordinary::first(words, k, W, hash) == probe::first(words, k, W, hash);
     assert!(hashes.iter().all(agree), "the answers differ");
     let w = black_box(W);
+    let theirs = session.clone();
+    let (filter, lent) = theirs.parts();
     let rounds = rounds([
         Some(&mut || {
             pass(hashes, yes, |hash| {
@@ -63,6 +66,11 @@ fn words_row(
         Some(&mut || {
             pass(hashes, yes, |hash| {
                 probe::first(words, k, w, hash).is_some()
+            })
+        }),
+        Some(&mut || {
+            pass(hashes, yes, |hash| {
+                ordinary_call::query(filter, lent, hash) == 1
             })
         }),
         Some(&mut || pass(hashes, yes, |hash| session.query(hash))),
@@ -90,6 +98,11 @@ fn bytes_row(
         Some(&mut || {
             pass(hashes, yes, |hash| {
                 probe::first_bytes(bytes, k, w, hash).is_some()
+            })
+        }),
+        Some(&mut || {
+            pass(hashes, yes, |hash| {
+                ordinary_call::query_bytes(k, w, bytes, hash) == 1
             })
         }),
         Some(&mut || pass(hashes, yes, |hash| query_bytes(k, bytes, hash))),

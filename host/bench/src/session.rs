@@ -3,6 +3,7 @@
 use crate::filled::W;
 use exports::*;
 
+#[derive(Clone)]
 pub struct Session {
     filter: Filter,
     main: Vec<u32>,
@@ -37,6 +38,11 @@ impl Session {
         let words = [&mut self.main, &mut self.queue, &mut self.annex];
         let pointers = words.map(|words| words.as_mut_ptr());
         (&raw mut self.filter, (pointers, lengths))
+    }
+
+    /// The record, and main, queue and annex.
+    pub fn parts(&self) -> (&Filter, [&[u32]; 3]) {
+        (&self.filter, [&self.main, &self.queue, &self.annex])
     }
 
     pub fn main(&self) -> &[u32] {

@@ -3,13 +3,21 @@
 const ROUNDS: usize = 11;
 
 /// The sides, in the order of the columns.
-pub const NAMES: [&str; 5] = ["ordinary", "proved", "C call", "libbloom", "one read"];
+pub const NAMES: [&str; 6] = [
+    "ordinary",
+    "proved",
+    "ordinary call",
+    "C call",
+    "libbloom",
+    "one read",
+];
 const SIDES: usize = NAMES.len();
 /// The ratios, each of a side to a side.
-const RATIOS: [(&str, usize, usize); 3] = [
+const RATIOS: [(&str, usize, usize); 4] = [
     ("proved / ordinary", 1, 0),
-    ("C call / libbloom", 2, 3),
-    ("C call / one read", 2, 4),
+    ("C call / ordinary call", 3, 2),
+    ("C call / libbloom", 3, 4),
+    ("C call / one read", 3, 5),
 ];
 
 /// What each side measures, if it takes part.
@@ -81,7 +89,13 @@ impl Row {
             number.map_or(String::from("-"), |n| format!("{n:.digits$}"))
         };
         let times: String = (0..SIDES)
-            .map(|side| format!(" {:>8} |", cell(self.best(side), 1)))
+            .map(|side| {
+                format!(
+                    " {:>1$} |",
+                    cell(self.best(side), 1),
+                    NAMES[side].len().max(8)
+                )
+            })
             .collect();
         let ratios: String = RATIOS
             .iter()
@@ -112,7 +126,7 @@ mod tests {
 
     #[test]
     fn best_times_and_median_ratios() {
-        let round = |ordinary, proved| [Some(ordinary), Some(proved), None, None, None];
+        let round = |ordinary, proved| [Some(ordinary), Some(proved), None, None, None, None];
         let row = row(&[round(2.0, 3.0), round(1.0, 5.0), round(4.0, 8.0)]);
         assert_eq!(
             (row.best(0), row.best(1), row.best(2)),
@@ -120,10 +134,10 @@ mod tests {
         );
         assert_eq!(row.ratio(1, 0), Some(2.0));
         assert_eq!(row.ratio(2, 0), None);
-        assert_eq!(row.line().matches(" - |").count(), 3 + 2);
+        assert_eq!(row.line().matches(" - |").count(), 4 + 3);
     }
 
-    /// Each side goes first once in five rounds, and none is left out.
+    /// Each side goes first once in six rounds, and none is left out.
     #[test]
     fn sides_take_turns() {
         let order = std::cell::RefCell::new(Vec::new());
@@ -131,12 +145,12 @@ mod tests {
             order.borrow_mut().push(side);
             side
         };
-        let (mut first, mut last) = (|| note(0), || note(4));
-        let rounds = rounds([Some(&mut first), None, None, None, Some(&mut last)]);
+        let (mut first, mut last) = (|| note(0), || note(5));
+        let rounds = rounds([Some(&mut first), None, None, None, None, Some(&mut last)]);
         assert_eq!(rounds.len(), ROUNDS);
         assert!(rounds
             .iter()
-            .all(|round| *round == [Some(0), None, None, None, Some(4)]));
-        assert_eq!(order.borrow()[..4], [0, 4, 4, 0]);
+            .all(|round| *round == [Some(0), None, None, None, None, Some(5)]));
+        assert_eq!(order.borrow()[..4], [0, 5, 5, 0]);
     }
 }
