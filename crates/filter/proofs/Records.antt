@@ -68,6 +68,22 @@ module _ (r : Filter) where
   unfolding firstNumber refusal
   first-2 m q a x = rw (x, refusal)
 
+  -- 2 is given exactly where the record is not right
+  pub right-by-first : (m q a n : ℕ) → n ≡ firstNumber r m q a → (n ≡ 2 → ⊥) → recordRight r ≡ true
+  right-by-first m q a n e ne = go (recordRight r) refl
+    where
+      go : (b : Bool) → recordRight r ≡ b → recordRight r ≡ true
+      go true x = x
+      go false x = absurd (ne (e ∙ sym (first-2 m q a x)))
+
+  pub wrong-by-first : (m q a n : ℕ) → n ≡ firstNumber r m q a → n ≡ 2 → recordRight r ≡ false
+  wrong-by-first m q a n e two = go (recordRight r) (slicesRight r m q a) refl refl
+    where
+      go : (b s : Bool) → recordRight r ≡ b → slicesRight r m q a ≡ s → recordRight r ≡ false
+      go false s x y = x
+      go true true x y = absurd (omega (arith, first-0 m q a x y))
+      go true false x y = absurd (omega (arith, first-3 m q a x y))
+
   -- fresh length and width, as the code adds them
   pub fresh-is : (e : ℕ) → e ≡ extra (r .regime) (r .k - r .start) → r .f + e ≡ fresh r
   unfolding freshAt

@@ -468,24 +468,25 @@ impl Record {
     fn double_number(self, main: &[u32], queue: &[u32], annex: &[u32], second: usize) -> u32
         ensures { λ a. ⌜ BeforeRoom (plain self) (now (main .entry)) (now (queue .entry)) (now (annex .entry)) second a ⌝ }
     {
-        if self.in_range() {
-            if self.k == 20 {
-                return 9;
-            }
-            let wanted = slots::pow2(self.k + 1) as usize;
-            if second != wanted {
-                return 3; // the second main
-            }
-            let n = self.audit(main, queue, annex);
-            if n != 0 {
-                return n;
-            }
-            if self.queued != 0 {
-                return 8;
-            }
-            return 0; // as far as these go
+        let first = self.first_number(main.len(), queue.len(), annex.len());
+        if first == 2 {
+            return 2; // Double too
         }
-        2 // Double too
+        if self.k == 20 {
+            return 9;
+        }
+        let wanted = slots::pow2(self.k + 1) as usize;
+        if second != wanted {
+            return 3; // the second main
+        }
+        let n = self.audit(main, queue, annex);
+        if n != 0 {
+            return n;
+        }
+        if self.queued != 0 {
+            return 8;
+        }
+        0 // as far as these go
     }
 
     pub fn double(

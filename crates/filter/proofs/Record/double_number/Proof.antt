@@ -4,56 +4,57 @@ use native.Mathlib.Omega.{arith}
 use Rattle.lists.proofs.Tests.{true-test}
 use Rattle.keeps.proofs.Bounds.{bounds}
 use Rattle.filter.specs.Plain.{plain}
+use Rattle.filter.proofs.Records.{right-by-first, wrong-by-first}
 use Rattle.filter.proofs.Doubles.{number-2, number-9, number-3, number-audit, number-8, before-refused, before-none, not-zero}
 use borrow.Author.Needs.{needs}
 use Rattle.filter.proofs.Record.double_number.Statement.{statement}
 use Rattle.filter.proofs.Record.double_number.Tie as tie
 
-in-range-requires : tie.Need-in-range-requires
-in-range-requires c κs = search needs
+first-number-requires : tie.Need-first-number-requires
+first-number-requires c κs = search needs
 
 returns : tie.Need-returns
-returns c = before-refused (plain (c .before .before .before .before .before .before .before .args .self)) (c .before .before .before .before .before .before .before .args .main .now) (c .before .before .before .before .before .before .before .args .queue .now) (c .before .before .before .before .before .before .before .args .annex .now) (c .before .before .before .before .before .before .before .args .second) 9 (not-zero 8) (number-9 (plain (c .before .before .before .before .before .before .before .args .self)) (c .before .before .before .before .before .before .before .args .main .now) (c .before .before .before .before .before .before .before .args .queue .now) (c .before .before .before .before .before .before .before .args .annex .now) (c .before .before .before .before .before .before .before .args .second) (sym (c .before .before .before .in-range .ensures) ∙ c .before .before .if1 .taken) (c .if2 .taken))
+returns c = before-refused (plain (c .before .before .before .before .before .args .self)) (c .before .before .before .before .before .args .main .now) (c .before .before .before .before .before .args .queue .now) (c .before .before .before .before .before .args .annex .now) (c .before .before .before .before .before .args .second) 2 (not-zero 1) (number-2 (plain (c .before .before .before .before .before .args .self)) (c .before .before .before .before .before .args .main .now) (c .before .before .before .before .before .args .queue .now) (c .before .before .before .before .before .args .annex .now) (c .before .before .before .before .before .args .second) (wrong-by-first (plain (c .before .before .before .before .before .args .self)) _ _ _ _ (c .before .first-number .ensures) (c .if1 .taken)))
+
+returns-2 : tie.Need-returns-2
+returns-2 c = before-refused (plain (c .before .before .before .before .before .before .before .args .self)) (c .before .before .before .before .before .before .before .args .main .now) (c .before .before .before .before .before .before .before .args .queue .now) (c .before .before .before .before .before .before .before .args .annex .now) (c .before .before .before .before .before .before .before .args .second) 9 (not-zero 8) (number-9 (plain (c .before .before .before .before .before .before .before .args .self)) (c .before .before .before .before .before .before .before .args .main .now) (c .before .before .before .before .before .before .before .args .queue .now) (c .before .before .before .before .before .before .before .args .annex .now) (c .before .before .before .before .before .before .before .args .second) (right-by-first (plain (c .before .before .before .before .before .before .before .args .self)) _ _ _ _ (c .before .before .before .first-number .ensures) (c .before .before .if1 .left)) (c .if2 .taken))
 
 add-pow2 : tie.Need-add-pow2
-add-pow2 c = let b = bounds (plain (c .before .before .before .before .before .before .before .before .args .self)) (true-test _ (sym (c .before .before .before .before .in-range .ensures) ∙ c .before .before .before .if1 .taken)) in omega (arith, b .k-20)
+add-pow2 c = let b = bounds (plain (c .before .before .before .before .before .before .before .before .args .self)) (true-test _ (right-by-first (plain (c .before .before .before .before .before .before .before .before .args .self)) _ _ _ _ (c .before .before .before .before .first-number .ensures) (c .before .before .before .if1 .left))) in omega (arith, b .k-20)
 
 pow2-requires : tie.Need-pow2-requires
-pow2-requires c κs = let b = bounds (plain (c .before .before .before .before .before .before .before .before .args .self)) (true-test _ (sym (c .before .before .before .before .in-range .ensures) ∙ c .before .before .before .if1 .taken)) in omega (arith, b .k-20)
+pow2-requires c κs = let b = bounds (plain (c .before .before .before .before .before .before .before .before .args .self)) (true-test _ (right-by-first (plain (c .before .before .before .before .before .before .before .before .args .self)) _ _ _ _ (c .before .before .before .before .first-number .ensures) (c .before .before .before .if1 .left))) in omega (arith, b .k-20)
 
 cast-wanted : tie.Need-cast-wanted
 cast-wanted c = search needs
 
-returns-2 : tie.Need-returns-2
-returns-2 c = before-refused (plain (c .before .before .before .before .before .before .before .before .before .before .args .self)) (c .before .before .before .before .before .before .before .before .before .before .args .main .now) (c .before .before .before .before .before .before .before .before .before .before .args .queue .now) (c .before .before .before .before .before .before .before .before .before .before .args .annex .now) (c .before .before .before .before .before .before .before .before .before .before .args .second) 3 (not-zero 2) (number-3 (plain (c .before .before .before .before .before .before .before .before .before .before .args .self)) (c .before .before .before .before .before .before .before .before .before .before .args .main .now) (c .before .before .before .before .before .before .before .before .before .before .args .queue .now) (c .before .before .before .before .before .before .before .before .before .before .args .annex .now) (c .before .before .before .before .before .before .before .before .before .before .args .second) (sym (c .before .before .before .before .before .before .in-range .ensures) ∙ c .before .before .before .before .before .if1 .taken) (c .before .before .before .if2 .left) _ (c .before .pow2 .ensures .0) (c .if3 .taken))
+returns-3 : tie.Need-returns-3
+returns-3 c = before-refused (plain (c .before .before .before .before .before .before .before .before .before .before .args .self)) (c .before .before .before .before .before .before .before .before .before .before .args .main .now) (c .before .before .before .before .before .before .before .before .before .before .args .queue .now) (c .before .before .before .before .before .before .before .before .before .before .args .annex .now) (c .before .before .before .before .before .before .before .before .before .before .args .second) 3 (not-zero 2) (number-3 (plain (c .before .before .before .before .before .before .before .before .before .before .args .self)) (c .before .before .before .before .before .before .before .before .before .before .args .main .now) (c .before .before .before .before .before .before .before .before .before .before .args .queue .now) (c .before .before .before .before .before .before .before .before .before .before .args .annex .now) (c .before .before .before .before .before .before .before .before .before .before .args .second) (right-by-first (plain (c .before .before .before .before .before .before .before .before .before .before .args .self)) _ _ _ _ (c .before .before .before .before .before .before .first-number .ensures) (c .before .before .before .before .before .if1 .left)) (c .before .before .before .if2 .left) _ (c .before .pow2 .ensures .0) (c .if3 .taken))
 
 audit-requires : tie.Need-audit-requires
 audit-requires c κs = search needs
 
-returns-3 : tie.Need-returns-3
-returns-3 c = before-refused (plain (c .before .before .before .before .before .before .before .before .before .before .before .before .args .self)) (c .before .before .before .before .before .before .before .before .before .before .before .before .args .main .now) (c .before .before .before .before .before .before .before .before .before .before .before .before .args .queue .now) (c .before .before .before .before .before .before .before .before .before .before .before .before .args .annex .now) (c .before .before .before .before .before .before .before .before .before .before .before .before .args .second) _ (c .if4 .taken) (number-audit (plain (c .before .before .before .before .before .before .before .before .before .before .before .before .args .self)) (c .before .before .before .before .before .before .before .before .before .before .before .before .args .main .now) (c .before .before .before .before .before .before .before .before .before .before .before .before .args .queue .now) (c .before .before .before .before .before .before .before .before .before .before .before .before .args .annex .now) (c .before .before .before .before .before .before .before .before .before .before .before .before .args .second) (sym (c .before .before .before .before .before .before .before .before .in-range .ensures) ∙ c .before .before .before .before .before .before .before .if1 .taken) (c .before .before .before .before .before .if2 .left) _ (c .before .before .before .pow2 .ensures .0) (c .before .before .if3 .left) _ (c .before .audit .ensures) (c .if4 .taken))
-
 returns-4 : tie.Need-returns-4
-returns-4 c = before-refused (plain (c .before .before .before .before .before .before .before .before .before .before .before .before .before .before .args .self)) (c .before .before .before .before .before .before .before .before .before .before .before .before .before .before .args .main .now) (c .before .before .before .before .before .before .before .before .before .before .before .before .before .before .args .queue .now) (c .before .before .before .before .before .before .before .before .before .before .before .before .before .before .args .annex .now) (c .before .before .before .before .before .before .before .before .before .before .before .before .before .before .args .second) 8 (not-zero 7) (number-8 (plain (c .before .before .before .before .before .before .before .before .before .before .before .before .before .before .args .self)) (c .before .before .before .before .before .before .before .before .before .before .before .before .before .before .args .main .now) (c .before .before .before .before .before .before .before .before .before .before .before .before .before .before .args .queue .now) (c .before .before .before .before .before .before .before .before .before .before .before .before .before .before .args .annex .now) (c .before .before .before .before .before .before .before .before .before .before .before .before .before .before .args .second) (sym (c .before .before .before .before .before .before .before .before .before .before .in-range .ensures) ∙ c .before .before .before .before .before .before .before .before .before .if1 .taken) (c .before .before .before .before .before .before .before .if2 .left) _ (c .before .before .before .before .before .pow2 .ensures .0) (c .before .before .before .before .if3 .left) (sym (c .before .before .if4 .left) ∙ c .before .before .before .audit .ensures) (c .if5 .taken))
+returns-4 c = before-refused (plain (c .before .before .before .before .before .before .before .before .before .before .before .before .args .self)) (c .before .before .before .before .before .before .before .before .before .before .before .before .args .main .now) (c .before .before .before .before .before .before .before .before .before .before .before .before .args .queue .now) (c .before .before .before .before .before .before .before .before .before .before .before .before .args .annex .now) (c .before .before .before .before .before .before .before .before .before .before .before .before .args .second) _ (c .if4 .taken) (number-audit (plain (c .before .before .before .before .before .before .before .before .before .before .before .before .args .self)) (c .before .before .before .before .before .before .before .before .before .before .before .before .args .main .now) (c .before .before .before .before .before .before .before .before .before .before .before .before .args .queue .now) (c .before .before .before .before .before .before .before .before .before .before .before .before .args .annex .now) (c .before .before .before .before .before .before .before .before .before .before .before .before .args .second) (right-by-first (plain (c .before .before .before .before .before .before .before .before .before .before .before .before .args .self)) _ _ _ _ (c .before .before .before .before .before .before .before .before .first-number .ensures) (c .before .before .before .before .before .before .before .if1 .left)) (c .before .before .before .before .before .if2 .left) _ (c .before .before .before .pow2 .ensures .0) (c .before .before .if3 .left) _ (c .before .audit .ensures) (c .if4 .taken))
 
 returns-5 : tie.Need-returns-5
-returns-5 c = before-none (plain (c .before .before .before .before .before .before .before .before .before .before .before .before .before .before .args .self)) (c .before .before .before .before .before .before .before .before .before .before .before .before .before .before .args .main .now) (c .before .before .before .before .before .before .before .before .before .before .before .before .before .before .args .queue .now) (c .before .before .before .before .before .before .before .before .before .before .before .before .before .before .args .annex .now) (c .before .before .before .before .before .before .before .before .before .before .before .before .before .before .args .second) (sym (c .before .before .before .before .before .before .before .before .before .before .in-range .ensures) ∙ c .before .before .before .before .before .before .before .before .before .if1 .taken) (c .before .before .before .before .before .before .before .if2 .left) _ (c .before .before .before .before .before .pow2 .ensures .0) (c .before .before .before .before .if3 .left) (sym (c .before .before .if4 .left) ∙ c .before .before .before .audit .ensures) (c .if5 .left)
+returns-5 c = before-refused (plain (c .before .before .before .before .before .before .before .before .before .before .before .before .before .before .args .self)) (c .before .before .before .before .before .before .before .before .before .before .before .before .before .before .args .main .now) (c .before .before .before .before .before .before .before .before .before .before .before .before .before .before .args .queue .now) (c .before .before .before .before .before .before .before .before .before .before .before .before .before .before .args .annex .now) (c .before .before .before .before .before .before .before .before .before .before .before .before .before .before .args .second) 8 (not-zero 7) (number-8 (plain (c .before .before .before .before .before .before .before .before .before .before .before .before .before .before .args .self)) (c .before .before .before .before .before .before .before .before .before .before .before .before .before .before .args .main .now) (c .before .before .before .before .before .before .before .before .before .before .before .before .before .before .args .queue .now) (c .before .before .before .before .before .before .before .before .before .before .before .before .before .before .args .annex .now) (c .before .before .before .before .before .before .before .before .before .before .before .before .before .before .args .second) (right-by-first (plain (c .before .before .before .before .before .before .before .before .before .before .before .before .before .before .args .self)) _ _ _ _ (c .before .before .before .before .before .before .before .before .before .before .first-number .ensures) (c .before .before .before .before .before .before .before .before .before .if1 .left)) (c .before .before .before .before .before .before .before .if2 .left) _ (c .before .before .before .before .before .pow2 .ensures .0) (c .before .before .before .before .if3 .left) (sym (c .before .before .if4 .left) ∙ c .before .before .before .audit .ensures) (c .if5 .taken))
 
 returns-6 : tie.Need-returns-6
-returns-6 c = before-refused (plain (c .before .before .before .before .before .args .self)) (c .before .before .before .before .before .args .main .now) (c .before .before .before .before .before .args .queue .now) (c .before .before .before .before .before .args .annex .now) (c .before .before .before .before .before .args .second) 2 (not-zero 1) (number-2 (plain (c .before .before .before .before .before .args .self)) (c .before .before .before .before .before .args .main .now) (c .before .before .before .before .before .args .queue .now) (c .before .before .before .before .before .args .annex .now) (c .before .before .before .before .before .args .second) (sym (c .before .in-range .ensures) ∙ c .if1 .left))
+returns-6 c = before-none (plain (c .before .before .before .before .before .before .before .before .before .before .before .before .before .before .args .self)) (c .before .before .before .before .before .before .before .before .before .before .before .before .before .before .args .main .now) (c .before .before .before .before .before .before .before .before .before .before .before .before .before .before .args .queue .now) (c .before .before .before .before .before .before .before .before .before .before .before .before .before .before .args .annex .now) (c .before .before .before .before .before .before .before .before .before .before .before .before .before .before .args .second) (right-by-first (plain (c .before .before .before .before .before .before .before .before .before .before .before .before .before .before .args .self)) _ _ _ _ (c .before .before .before .before .before .before .before .before .before .before .first-number .ensures) (c .before .before .before .before .before .before .before .before .before .if1 .left)) (c .before .before .before .before .before .before .before .if2 .left) _ (c .before .before .before .before .before .pow2 .ensures .0) (c .before .before .before .before .if3 .left) (sym (c .before .before .if4 .left) ∙ c .before .before .before .audit .ensures) (c .if5 .left)
 
 pub double-number-spec : {M : Type 1} → statement M
 double-number-spec =
     tie.close
     (tie.spec
-    in-range-requires
+    first-number-requires
     returns
+    returns-2
     add-pow2
     pow2-requires
     cast-wanted
-    returns-2
-    audit-requires
     returns-3
+    audit-requires
     returns-4
     returns-5
     returns-6)
