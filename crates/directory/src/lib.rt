@@ -56,50 +56,56 @@ fn place_right(k: u32, last: u32, p: Place) -> bool
     p.count <= slots::limit_of(p.s)
 }
 
-fn all_zero(places: [Place; 15], from: usize) -> bool
-    requires { ⌜ from ≤ 15 ⌝ }
-    ensures { λ r. ⌜ r ≡ every zeroPlace (drop from places) ⌝ }
-{
-    let mut i = from;
-    while i < 15 {
-        let p = places[i];
-        if zero_place(p) {
-            i += 1;
-        } else {
-            return false;
-        }
-    }
-    true
-}
-
-// The places in use are right, and the rest are zero.
-pub fn directory_right(k: u32, places: [Place; 15]) -> bool
-    requires { ⌜ k ≤ 20 ⌝ }
-    ensures { λ r. ⌜ r ≡ directoryRight k places ⌝ }
-{
-    let mut last: u32 = 5;
-    let mut i: usize = 0;
-    while i < 15 {
-        let place = places[i];
-        if place.b == 0 {
-            return all_zero(places, i);
-        }
-        if place_right(k, last, place) {
-            last = place.b;
-            i += 1;
-        } else {
-            return false;
-        }
-    }
-    true
-}
-
 // The words of a table.
 pub fn table_words(s: u32) -> usize
     requires { ⌜ s ≤ 20 ⌝ }
     ensures { λ r. ⌜ (r ≡ 2 ^ s) × (r ≤ 1048576) ⌝ }
 {
     slots::pow2(s) as usize
+}
+
+// Whether a directory is right, and the words of its tables where it is.
+pub struct Reading {
+    pub right: bool,
+    pub words: usize,
+}
+
+// Both in one walk. Behind a place that is not in use no length is above `last` and at most k.
+pub fn read(k: u32, places: [Place; 15]) -> Reading
+    requires { ⌜ k ≤ 20 ⌝ }
+    ensures { λ r. ⌜ (r .right ≡ directoryRight k places) × (T (directoryRight k places) → r .words ≡ wordsTaken (placesInUse places)) ⌝ }
+{
+    let mut last: u32 = 5;
+    let mut words: usize = 0;
+    let mut i: usize = 0;
+    while i < 15 {
+        let place = places[i];
+        if place.b == 0 {
+            if zero_place(place) {
+                last = k;
+            } else {
+                return Reading {
+                    right: false,
+                    words: 0,
+                };
+            }
+        } else {
+            if place_right(k, last, place) {
+                words += table_words(place.s);
+                last = place.b;
+            } else {
+                return Reading {
+                    right: false,
+                    words: 0,
+                };
+            }
+        }
+        i += 1;
+    }
+    Reading {
+        right: true,
+        words: words,
+    }
 }
 
 // The words of the first n tables: the offset of the table at place n.

@@ -1,5 +1,5 @@
 -- The record's tests, put together as the code makes them: each test that holds leaves the rest, and one that fails decides.
-use mathlib.Core.Path.{_≡_, refl, sym, ap, ap₂, _∙_}
+use mathlib.Core.Path.{_≡_, refl, sym, ap, ap₂, _∙_, subst}
 use mathlib.Core.Bool.{Bool, true, false, _&&_}
 use Prim.Native.Nat.{ℕ, _+_, _-_, _≤_, _^_}
 use native.Mathlib.Omega.{arith}
@@ -9,7 +9,7 @@ use Rattle.lists.specs.Lists.{within}
 use Rattle.lists.proofs.Tests.{and-left, and-right, true-test}
 use Rattle.slots.specs.Numbers.{limit, extra}
 use Rattle.directory.specs.Places.{directoryRight}
-use Rattle.rules.specs.Record.{Filter, freshAt, widthAt, fresh, width}
+use Rattle.rules.specs.Record.{Filter, freshAt, widthAt, fresh, width, annexUsed}
 use Rattle.rules.specs.Refusals.{refusal, settingsRight, recordRight, slicesRight}
 use Rattle.filter.specs.Contracts.{firstNumber}
 
@@ -42,6 +42,10 @@ module _ (r : Filter) where
   pub record-settings : settingsRight (r .start) (r .f) (r .regime) ≡ false → false ≡ recordRight r
   unfolding recordRight
   record-settings a = sym (ap (λ (x : Bool). x && (within (r .start) 20 (r .k) && (leb (r .used) (limit (r .k)) && (leb (r .queued) (2 ^ 20) && directoryRight (r .k) (r .dir))))) a)
+
+  -- where it is given, nothing is said of the words
+  pub record-wrong : false ≡ recordRight r → (false ≡ recordRight r) × (T (recordRight r) → 0 ≡ annexUsed r)
+  record-wrong e = (e, λ t. absurd (subst T (sym e) t))
 
   -- the settings leave 3 at least for k
   pub low-k : settingsRight (r .start) (r .f) (r .regime) ≡ true → within (r .start) 20 (r .k) ≡ true → (3 ≤ r .k) × (r .k ≤ 20)

@@ -14,6 +14,7 @@ ghost use Rattle.filter.specs.Restart.{restart};
 ghost use Rattle.slots.specs.Payload.{void};
 ghost use Rattle.filter.specs.Contracts.{firstNumber, Starts, Inserts, Deletes, Rejuvenates, Audits, Settles, Doubles, Chosen, Renewing, BeforeRoom, Leaves};
 use directory::Place;
+use directory::Reading;
 
 #[repr(C)]
 pub struct Record {
@@ -39,9 +40,9 @@ fn settings_right(power: u32, f: u32, regime: u32) -> bool
 }
 
 impl Record {
-    // Number 2 is not given.
-    fn in_range(self) -> bool
-        ensures { λ r. ⌜ r ≡ recordRight (plain self) ⌝ }
+    // Whether number 2 is not given, and the words of the annex tables in use where it is not.
+    fn in_range(self) -> Reading
+        ensures { λ r. ⌜ (r .right ≡ recordRight (plain self)) × (T (recordRight (plain self)) → r .words ≡ annexUsed (plain self)) ⌝ }
     {
         let k = self.k;
         if settings_right(self.start, self.f, self.regime) {
@@ -49,21 +50,23 @@ impl Record {
                 let most = slots::limit_of(k);
                 if (self.used <= most) & (self.queued <= 1048576) {
                     let dir = self.dir;
-                    return directory::directory_right(k, dir);
+                    return directory::read(k, dir);
                 }
             }
         }
-        false
+        Reading {
+            right: false,
+            words: 0,
+        }
     }
 
-    // Number 3 is not given.
-    fn lent_right(self, main: usize, queue: usize, annex: usize) -> bool
-        requires { ⌜ T (recordRight (plain self)) ⌝ }
+    // Number 3 is not given, where the annex tables take so many words.
+    fn lent_right(self, taken: usize, main: usize, queue: usize, annex: usize) -> bool
+        requires { ⌜ T (recordRight (plain self)) × (taken ≡ annexUsed (plain self)) ⌝ }
         ensures { λ r. ⌜ r ≡ slicesRight (plain self) main queue annex ⌝ }
     {
         let slots = slots::pow2(self.k) as usize;
         let queued = self.queued as usize;
-        let taken = self.annex_used();
         (main == slots) & ((queued <= queue) & (taken <= annex))
     }
 
@@ -71,8 +74,9 @@ impl Record {
     pub fn first_number(self, main: usize, queue: usize, annex: usize) -> u32
         ensures { λ r. ⌜ r ≡ firstNumber (plain self) main queue annex ⌝ }
     {
-        if self.in_range() {
-            if self.lent_right(main, queue, annex) {
+        let read = self.in_range();
+        if read.right {
+            if self.lent_right(read.words, main, queue, annex) {
                 return 0; // neither
             }
             return 3; // the lengths
@@ -534,7 +538,8 @@ impl Record {
         ensures words { λ r. ⌜ now r ≡ part (plain self) (now (annex .entry)) b ⌝ }
         ensures itself { λ r. ⌜ r .ptr .0 ≡ annex .entry .ptr .0 ⌝ }
     {
-        if self.in_range() {
+        let read = self.in_range();
+        if read.right {
             let dir = self.dir;
             let n = directory::places_in_use(dir);
             if directory::words_taken(dir, n) <= annex.len() {

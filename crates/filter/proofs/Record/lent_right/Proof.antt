@@ -8,7 +8,7 @@ use Rattle.filter.proofs.Record.lent_right.Statement.{statement}
 use Rattle.filter.proofs.Record.lent_right.Tie as tie
 
 pow2-requires : tie.Need-pow2-requires
-pow2-requires c κs = let b = bounds (plain (c .args .self)) (c .pre) in omega (arith, b .k-20)
+pow2-requires c κs = let b = bounds (plain (c .args .self)) (c .pre .0) in omega (arith, b .k-20)
 
 cast-slots : tie.Need-cast-slots
 cast-slots c = search needs
@@ -16,13 +16,15 @@ cast-slots c = search needs
 cast-queued : tie.Need-cast-queued
 cast-queued c = search needs
 
-annex-used-requires : tie.Need-annex-used-requires
-annex-used-requires c κs = search needs
-
 returns : tie.Need-returns
 unfolding slicesRight
-returns c = rw (c .before .before .pow2 .ensures .0, c .annex-used .ensures .0)
+returns c = rw (c .before .pow2 .ensures .0, c .before .before .pre .1)
 
 pub lent-right-spec : {M : Type 1} → statement M
 lent-right-spec =
-    tie.close (tie.spec pow2-requires cast-slots cast-queued annex-used-requires returns)
+    tie.close
+    (tie.spec
+    pow2-requires
+    cast-slots
+    cast-queued
+    returns)
