@@ -129,7 +129,7 @@ fn panel(index: usize, rows: &[Row], powers: &[u32]) -> String {
 
 /// The whole picture. A time below the least tick is drawn below the frame.
 pub fn picture(rows: &[Row], powers: &[u32]) -> String {
-    let (width, height) = (2.0 * ACROSS + 10.0, 2.0 * DOWN + 50.0);
+    let (width, height) = (2.0 * ACROSS + 40.0, 2.0 * DOWN + 50.0);
     let mut text = format!(
         "<svg xmlns=\"http://www.w3.org/2000/svg\" viewBox=\"0 0 {width} {height}\" \
          font-family=\"sans-serif\" font-size=\"12\">\n\
