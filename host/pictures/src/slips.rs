@@ -84,6 +84,14 @@ fn take_hash(
     }
 }
 
+/// Settle by a rule for one queue word, on all of them; any other call is the library's.
+fn all_words(state: &mut State, call: &Call, rule: Rule) -> Answered {
+    match call {
+        Call::Settle => settle(state, rule, usize::MAX),
+        _ => proved(state, call),
+    }
+}
+
 /// The first stored mother hash instead of the longest.
 fn first_stored(state: &mut State, call: &Call) -> Answered {
     let rule: Rule = |contents, record, c| {
@@ -93,10 +101,7 @@ fn first_stored(state: &mut State, call: &Call) -> Answered {
         take_voids(contents, record, c, record.places[0].length, Some(c));
         take_hash(contents, record, 0, c)
     };
-    match call {
-        Call::Settle => settle(state, rule, usize::MAX),
-        _ => proved(state, call),
-    }
+    all_words(state, call, rule)
 }
 
 /// The voids of the longest mother hash, but the first stored one goes from the annex.
@@ -108,10 +113,7 @@ fn first_hash_taken(state: &mut State, call: &Call) -> Answered {
         take_voids(contents, record, c, record.places[index].length, Some(c));
         take_hash(contents, record, 0, c)
     };
-    match call {
-        Call::Settle => settle(state, rule, usize::MAX),
-        _ => proved(state, call),
-    }
+    all_words(state, call, rule)
 }
 
 /// A void at c itself goes too.
@@ -123,10 +125,7 @@ fn void_at_c_too(state: &mut State, call: &Call) -> Answered {
         take_voids(contents, record, c, record.places[index].length, None);
         take_hash(contents, record, index, c)
     };
-    match call {
-        Call::Settle => settle(state, rule, usize::MAX),
-        _ => proved(state, call),
-    }
+    all_words(state, call, rule)
 }
 
 /// Only the first queue word is handled.

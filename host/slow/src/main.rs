@@ -1,8 +1,12 @@
 //! Times of the slow calls on tables filled to the load limit, from 2^12 to 2^20 slots, with an empty
-//! queue and with a long one, beside one pass over the same words. Each size is reached by the same
+//! queue and with a full one, beside one pass over the same words. Each size is reached by the same
 //! number of doublings, so that all have as many annex tables, from a filter of F 3 that is filled
 //! before each; what is old becomes void by then, and deletes of voids fill the queue. The last row
 //! is the longest life: start power 3, fifteen annex tables.
+//!
+//! A row is 2^20 slots of different filters, one filter after the other: a call at night finds its
+//! words in no cache and its branches in no memory of the processor, and a small filter that is
+//! called over and over would find both.
 
 #[path = "../../bench/src/clock.rs"]
 mod clock;
@@ -30,7 +34,11 @@ struct Session {
     random: u64,
 }
 
-/// The times of one size in seconds, its annex tables, and the queue words deleted to.
+/// Filters of one size, of different hashes.
+struct Filters(Vec<Session>);
+
+/// The times of one size in seconds for each filter, the annex tables of one, and the queue words
+/// of all for each filter.
 struct Times {
     pass: f64,
     audit: f64,
@@ -38,7 +46,7 @@ struct Times {
     settle: f64,
     double: f64,
     tables: usize,
-    queued: u32,
+    queued: usize,
 }
 
 fn timed(work: impl FnOnce() -> u32) -> f64 {
@@ -47,19 +55,15 @@ fn timed(work: impl FnOnce() -> u32) -> f64 {
     (nanoseconds() - begun) as f64 / 1e9
 }
 
-/// The best of several rounds.
-fn best(round: impl FnMut(usize) -> f64) -> f64 {
-    (0..ROUNDS).map(round).fold(f64::INFINITY, f64::min)
-}
-
 impl Session {
-    fn new(power: u32) -> Session {
+    /// An empty filter of 2^power slots, with as many annex words as main words after the doublings.
+    fn new(power: u32, doublings: u32, seed: u64) -> Session {
         let mut session = Session {
             filter: Filter::default(),
             main: vec![0; 1 << power],
             queue: Vec::new(),
-            annex: vec![0; 1 << LAST],
-            random: 1,
+            annex: vec![0; 1 << (power + doublings)],
+            random: seed << 40,
         };
         let (r, [m, q, a], [ml, ql, al]) = session.lent();
         // Pointers and lengths are those of the session's own words.
@@ -69,8 +73,8 @@ impl Session {
     }
 
     /// A table of 2^k slots after so many doublings, filled before each and at the end.
-    fn grown(k: u32, doublings: u32) -> Session {
-        let mut session = Session::new(k - doublings);
+    fn grown(k: u32, doublings: u32, seed: u64) -> Session {
+        let mut session = Session::new(k - doublings, doublings, seed);
         session.fill();
         for _ in 0..doublings {
             session.double();
@@ -92,8 +96,8 @@ impl Session {
         x ^ (x >> 31)
     }
 
-    fn queued(&self) -> u32 {
-        self.filter.numbers[5]
+    fn queued(&self) -> usize {
+        self.filter.numbers[5] as usize
     }
 
     /// Inserts until the load limit.
@@ -108,8 +112,8 @@ impl Session {
         }
     }
 
-    /// One delete at each address, of any hash; whether the queue was full at one.
-    fn delete_at_each(&mut self) -> bool {
+    /// One delete at each address, of any hash.
+    fn delete_at_each(&mut self) {
         let k = self.filter.numbers[0];
         for i in 0..1u64 << k {
             let address = i.wrapping_mul(STRIDE) & ((1 << k) - 1);
@@ -117,21 +121,19 @@ impl Session {
             let (r, [m, q, a], [ml, ql, al]) = self.lent();
             // As above.
             let number = unsafe { kj_delete(r, m, ml, q, ql, a, al, hash) };
-            assert!([0, 6, 7].contains(&number), "delete answered {number}");
-            if number == 7 {
-                return true;
-            }
+            assert!([0, 6].contains(&number), "delete answered {number}");
         }
-        false
     }
 
-    /// Lends half as many queue words as there are slots, deletes until they or the voids are used
-    /// up, and fills the table again.
+    /// Deletes all voids, lends a queue of just the words that are then in use, and fills the table
+    /// again.
     fn fill_queue(&mut self) {
-        self.queue = vec![0; self.main.len() / 2];
+        self.queue = vec![0; self.main.len()];
         loop {
             let before = self.queued();
-            if self.delete_at_each() || self.queued() == before {
+            self.delete_at_each();
+            if self.queued() == before {
+                self.queue.truncate(before);
                 return self.fill();
             }
         }
@@ -144,10 +146,10 @@ impl Session {
     }
 
     /// One pass over the words that Audit reads.
-    fn pass(&self) -> f64 {
+    fn pass(&mut self) -> f64 {
         let parts = [
             &self.main[..],
-            &self.queue[..self.queued() as usize],
+            &self.queue[..self.queued()],
             &self.annex[..self.tables().sum()],
         ];
         timed(|| {
@@ -178,27 +180,53 @@ impl Session {
         self.main = second;
         took
     }
+}
 
-    /// The times of a table filled to the load limit. Settle and Double are timed on copies.
+impl Filters {
+    fn grown(k: u32, doublings: u32) -> Filters {
+        let seeds = 0..1 << (LAST - k);
+        Filters(seeds.map(|s| Session::grown(k, doublings, s)).collect())
+    }
+
+    /// Something done to each, for which the clock is not read.
+    fn all(&mut self, work: fn(&mut Session)) {
+        self.0.iter_mut().for_each(work);
+    }
+
+    /// The seconds of a call for each filter, the best of several rounds. Each round works on a copy.
+    fn best(&self, call: fn(&mut Session) -> f64) -> f64 {
+        let round = |_| {
+            let mut copies = self.0.clone();
+            copies.iter_mut().map(call).sum::<f64>() / copies.len() as f64
+        };
+        (0..ROUNDS).map(round).fold(f64::INFINITY, f64::min)
+    }
+
+    /// The times of tables filled to the load limit.
     fn measure(mut self) -> Times {
-        let audit = best(|_| self.audit());
-        self.fill_queue();
-        let mut settled = self.clone();
-        settled.settle();
-        settled.fill();
-        let last = self.filter.numbers[0] == LAST;
+        let audit = self.best(Session::audit);
+        self.all(Session::fill_queue);
+        let pass = self.best(Session::pass);
+        let audit_queue = self.best(Session::audit);
+        let settle = self.best(Session::settle);
+        let tables = self.0[0].tables().count();
+        let queued = self.0.iter().map(Session::queued).sum::<usize>() / self.0.len();
+        let last = self.0[0].filter.numbers[0] == LAST;
+        let double = if last {
+            0.0
+        } else {
+            self.all(|session| drop(session.settle()));
+            self.all(Session::fill);
+            self.best(Session::double)
+        };
         Times {
-            pass: best(|_| self.pass()),
+            pass,
             audit,
-            audit_queue: best(|_| self.audit()),
-            settle: best(|_| self.clone().settle()),
-            double: if last {
-                0.0
-            } else {
-                best(|_| settled.clone().double())
-            },
-            tables: self.tables().count(),
-            queued: self.queued(),
+            audit_queue,
+            settle,
+            double,
+            tables,
+            queued,
         }
     }
 }
@@ -232,7 +260,7 @@ fn main() {
     let mut before: Option<Times> = None;
     let sizes = (FIRST..=LAST).map(|k| (k, DOUBLINGS.min(k - LEAST)));
     for (k, doublings) in sizes.chain([(LAST, LAST - LEAST)]) {
-        let now = Session::grown(k, doublings).measure();
+        let now = Filters::grown(k, doublings).measure();
         println!("{}", row(k, &now, before.as_ref()));
         before = Some(now);
     }
