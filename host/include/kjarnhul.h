@@ -45,7 +45,7 @@
 ** front page reads bytes of its own by kj_query_bytes, which takes no lock and needs none as
 ** long as nobody writes those bytes while it runs. Calls on different filters never disturb each
 ** other.
-** kj_audit, kj_settle and kj_double use about 72 KiB of the thread's stack.
+** kj_audit, kj_settle and kj_double use about 104 KiB of the thread's stack.
 **
 ** WHAT IS PROVED
 **

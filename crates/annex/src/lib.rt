@@ -7,7 +7,7 @@ ghost use Rattle.annex.specs.Stored.{tableOf, stored, Placed, LongestAt,
 use directory::Place;
 
 // The payload of the mother hash that the low b bits of c are, in a table of 2^s slots.
-fn hash_entry(b: u32, s: u32, c: u32) -> u32
+pub fn hash_entry(b: u32, s: u32, c: u32) -> u32
     requires { ⌜ (s < b) × (b - s < 18) × (b ≤ 20) ⌝ }
     ensures { λ r. ⌜ r ≡ hashEntry b s (c % 2 ^ b) ⌝ }
 {
@@ -16,7 +16,7 @@ fn hash_entry(b: u32, s: u32, c: u32) -> u32
 }
 
 // Its canonical slot there.
-fn hash_slot(s: u32, c: u32) -> usize
+pub fn hash_slot(s: u32, c: u32) -> usize
     requires { ⌜ s ≤ 20 ⌝ }
     ensures { λ r. ⌜ (r ≡ c % 2 ^ s) × (r < 2 ^ s) ⌝ }
 {

@@ -5,11 +5,12 @@ use mathlib.Core.List.{List, []}
 use Prim.Native.Nat.{ℕ, _+_, _-_, _/_, _^_, _≤_, _<_}
 use native.Mathlib.Omega.{arith}
 use native.Mathlib.Numerals.{add-one}
-use lib.Dec.{ltb}
+use lib.Dec.{T, ltb}
 use borrow.Author.Tests.{lt-ltb, le-ltb}
 use lib.ListN.{length, take, drop, getD}
 use lib.Seq.{drop-cons, length-take-le}
 use Rattle.lists.specs.Lists.{every}
+use Rattle.lists.proofs.Tests.{true-test}
 use Rattle.slots.specs.Numbers.{limit}
 use Rattle.slots.proofs.NumberLaws.{limit-lt}
 use Rattle.layout.specs.Decode.{decode}
@@ -75,6 +76,9 @@ module _ (places : List Place) (annex : List ℕ) (i at : ℕ) (whole : Bool) (s
 
       pub annex-on : fine ≡ true → whole ≡ annexRight (placesInUse (drop (i + 1) places)) (drop (at + size) annex)
       annex-on g = split ∙ ap (λ (b : Bool). b && annexRight (placesInUse (drop (i + 1) places)) (drop (at + size) annex)) g
+
+pub so-stored : (places : List Place) (annex : List ℕ) (stored : Bool) → stored ≡ annexRight (placesInUse places) annex → stored ≡ true → T (annexRight (placesInUse places) annex)
+so-stored places annex stored e t = true-test (annexRight (placesInUse places) annex) (sym e ∙ t)
 
 -- ---- together
 

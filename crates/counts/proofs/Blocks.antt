@@ -6,6 +6,7 @@ use Prim.Native.Nat.{ℕ, suc, _+_, _-_, _*_, _%_, _≤_, _<_}
 use native.Mathlib.Omega.{arith}
 use native.Mathlib.Nat.{mod-eq-of-lt}
 use native.Mathlib.Numerals.{add-one}
+use native.Mathlib.Decide.{ℕ-discrete}
 use lib.Dec.{eqb}
 use lib.ListN.{length, drop, getD}
 use lib.Seq.{drop-cons}
@@ -20,37 +21,41 @@ use Rattle.layout.proofs.Puts.{layout-length, run-room}
 use Rattle.rules.specs.Tables.{Table, mothersOf}
 use Rattle.rules.specs.Sound.{naming, addressRight}
 use Rattle.sound.specs.Reading.{Laid, readAt}
-use Rattle.counts.specs.Tally.{blockSize, Tallied}
+use Rattle.counts.specs.Tally.{blockSize, Tallied, Stored}
 use Rattle.counts.specs.Blocks.{rightFrom, Block}
 use Rattle.sound.proofs.Readings.{run-read}
 
+-- k entries wait on arrival at address c of the table, if it has that address
+abbrev pub Waits : List ℕ → ℕ → ℕ → Type 0
+Waits words c k = c < length words → k ≡ carry (decode words) c
+
 -- of the addresses from `from` on, those from c on are right exactly if all are, and k entries wait on arrival at c
 pub record Stand (f : ℕ → List ℕ → Bool) (words : List ℕ) (from c k : ℕ) : Type 0 where
-  pub here : c < length words → k ≡ carry (decode words) c
+  pub here : Waits words c k
   pub gone : rightFrom f from (decode words) ≡ rightFrom f c (decode words)
 
 pub stand-carry : (f : ℕ → List ℕ → Bool) (words : List ℕ) (from c k : ℕ) → Stand f words from c k → c < length words → k ≡ carry (decode words) c
 stand-carry f words from c k s h = s .here h
 
 module _ (words : List ℕ) (p : Laid words) where
-  same-size : length (decode words) ≡ length words
+  pub same-size : length (decode words) ≡ length words
   same-size = sym (layout-length (decode words)) ∙ ap length (sym (p .is))
 
-  small : total (decode words) < length (decode words)
+  pub small : total (decode words) < length (decode words)
   small = omega (arith, p .small, same-size)
 
   module _ (c k : ℕ) (hc : c < length words) where
-    in-runs : c < length (decode words)
+    pub in-runs : c < length (decode words)
     in-runs = omega (arith, same-size)
 
-    carry-is : k ≡ placeOf words c → k ≡ carry (decode words) c
+    pub carry-is : k ≡ placeOf words c → k ≡ carry (decode words) c
     carry-is e = e ∙ ap (λ (l : List ℕ). placeOf l c) (p .is) ∙ place-of (decode words) c in-runs small
 
     module _ (ek : k ≡ carry (decode words) c) where
-      carry-small : k < length words
+      pub carry-small : k < length words
       carry-small = omega (arith, p .small, run-room (decode words) c in-runs small)
 
-      read-is : readAt words c k ≡ getD (decode words) c []
+      pub read-is : readAt words c k ≡ getD (decode words) c []
       read-is = ap (λ (l : List ℕ). readAt l c k) (p .is) ∙ run-read (decode words) c in-runs small k ek
 
       next-carry : (k′ : ℕ) → k′ ≡ k + length (readAt words c k) - 1 → c + 1 < length words → k′ ≡ carry (decode words) (c + 1)
@@ -64,14 +69,14 @@ module _ (words : List ℕ) (p : Laid words) where
           ∙ sym (ap (carry runs) (sym s) ∙ Rattle.layout.proofs.Same.carry-next runs c small ∙ ap (λ (j : ℕ). carry runs j + length (getD runs j []) - 1) m))
 
       -- the code's test of the address
-      test-is : (w : ℕ) (ts : List Table) (ws : List ℕ) (good : Bool) (named even : ℕ) → named ≡ naming c ws → even ≡ count (c * 2) ws
-          → good ≡ (eqb (count (tombstone w) (readAt words c k)) even && eqb (count (void w) (readAt words c k)) (mothersOf c ts - named))
+      test-is : (w : ℕ) (ts : List Table) (ws : List ℕ) (good : Bool) (named even mothers : ℕ) → named ≡ naming c ws → even ≡ count (c * 2) ws → mothers ≡ mothersOf c ts
+          → good ≡ (eqb (count (tombstone w) (readAt words c k)) even && eqb (count (void w) (readAt words c k)) (mothers - named))
           → good ≡ addressRight w ts ws c (getD (decode words) c [])
       unfolding addressRight
-      test-is w ts ws good named even en ee eg =
+      test-is w ts ws good named even mothers en ee em eg =
           let r = getD (decode words) c [] in
-          eg ∙ ap (λ (b : List ℕ). eqb (count (tombstone w) b) even && eqb (count (void w) b) (mothersOf c ts - named)) read-is
-          ∙ ap₂ (λ (x y : ℕ). eqb (count (tombstone w) r) x && eqb (count (void w) r) (mothersOf c ts - y)) ee en
+          eg ∙ ap (λ (b : List ℕ). eqb (count (tombstone w) b) even && eqb (count (void w) b) (mothers - named)) read-is
+          ∙ ap₂ (λ (x y : ℕ). eqb (count (tombstone w) r) x && eqb (count (void w) r) y) ee (ap₂ (λ (x y : ℕ). x - y) em en)
 
   module _ (f : ℕ → List ℕ → Bool) where
     one-more : (c : ℕ) (good : Bool) → c < length words → good ≡ f c (getD (decode words) c [])
@@ -89,30 +94,43 @@ module _ (words : List ℕ) (p : Laid words) where
 
 -- ---- the addresses of a block
 
+module _ (words : List ℕ) (base : ℕ) (p : Laid words) where
+  pub waits-first : (k : ℕ) → k ≡ carry (decode words) base → Waits words (base + 0) k
+  waits-first k e h = let z : base ≡ base + 0 = omega arith in e ∙ ap (carry (decode words)) z
+
+  module _ (i k : ℕ) (s : Waits words (base + i) k) (hc : base + i < length words) where
+    pub waits-small : k < length words
+    waits-small = carry-small words p (base + i) k hc (s hc)
+
+    pub waits-next : (k′ : ℕ) → k′ ≡ k + length (readAt words (base + i) k) - 1 → Waits words (base + (i + 1)) k′
+    waits-next k′ e h =
+        let z : base + i + 1 ≡ base + (i + 1) = omega arith in
+        next-carry words p (base + i) k hc (s hc) k′ e (omega arith) ∙ ap (carry (decode words)) z
+
 module _ (words ws : List ℕ) (w : ℕ) (ts : List Table) (base : ℕ) (p : Laid words) where
   pub stand-start : (k : ℕ) → k ≡ carry (decode words) base → Stand (addressRight w ts ws) words base (base + 0) k
   stand-start k e =
       let z : base ≡ base + 0 = omega arith in
-      record { here = λ h. e ∙ ap (carry (decode words)) z; gone = ap (λ (c : ℕ). rightFrom (addressRight w ts ws) c (decode words)) z }
+      record { here = waits-first words base p k e; gone = ap (λ (c : ℕ). rightFrom (addressRight w ts ws) c (decode words)) z }
 
-  pub stand-small : (i k : ℕ) → Stand (addressRight w ts ws) words base (base + i) k → base + i < length words → k < length words
-  stand-small i k s h = carry-small words p (base + i) k h (s .here h)
-
-  module _ (i k k′ : ℕ) (good : Bool) (names evens : List ℕ) (s : Stand (addressRight w ts ws) words base (base + i) k) (hc : base + i < length words) (hi : i < blockSize)
-      (y : Tallied base ws names evens)
+  module _ (i n k k′ : ℕ) (good : Bool) (names evens mothers : List ℕ) (s : Stand (addressRight w ts ws) words base (base + i) k) (hi : i < n) (hn : n ≤ blockSize)
+      (hc : base + i < length words) (y : Tallied base ws names evens) (m : Stored base n ts mothers)
       (eg : good ≡ (eqb (count (tombstone w) (readAt words (base + i) k)) (getD evens i 0)
-      && eqb (count (void w) (readAt words (base + i) k)) (mothersOf (base + i) ts - getD names i 0))) where
+      && eqb (count (void w) (readAt words (base + i) k)) (getD mothers i 0 - getD names i 0))) where
+    in-block : i < blockSize
+    in-block = omega arith
+
     split : rightFrom (addressRight w ts ws) base (decode words) ≡ (good && rightFrom (addressRight w ts ws) (base + i + 1) (decode words))
     split =
         s .gone
         ∙ one-more words p (addressRight w ts ws) (base + i) good hc
-        (test-is words p (base + i) k hc (s .here hc) w ts ws good (getD names i 0) (getD evens i 0) (y .named i hi) (y .even i hi) eg)
+        (test-is words p (base + i) k hc (s .here hc) w ts ws good (getD names i 0) (getD evens i 0) (getD mothers i 0) (y .named i in-block) (y .even i in-block) (m .stored i hi) eg)
 
     pub stand-on : k′ ≡ k + length (readAt words (base + i) k) - 1 → good ≡ true → Stand (addressRight w ts ws) words base (base + (i + 1)) k′
     stand-on ek g =
         let z : base + i + 1 ≡ base + (i + 1) = omega arith in
         record {
-          here = λ h. next-carry words p (base + i) k hc (s .here hc) k′ ek (omega arith) ∙ ap (carry (decode words)) z;
+          here = waits-next words base p i k (s .here) hc k′ ek;
           gone =
               split ∙ ap (λ (b : Bool). b && rightFrom (addressRight w ts ws) (base + i + 1) (decode words)) g
               ∙ ap (λ (c : ℕ). rightFrom (addressRight w ts ws) c (decode words)) z;
@@ -127,22 +145,26 @@ module _ (words ws : List ℕ) (w : ℕ) (ts : List Table) (base : ℕ) (p : Lai
           onward = λ e. absurd (no-true (sym g ∙ e));
         }
 
-  module _ (i k : ℕ) (s : Stand (addressRight w ts ws) words base (base + i) k) (hi : i ≤ blockSize) where
-    pub stand-out : length words ≤ base + i → Block (addressRight w ts ws) (decode words) base true k
-    stand-out h =
-        record {
-          splits =
-              s .gone ∙ right-out words p (addressRight w ts ws) (base + i) h ∙ sym (right-out words p (addressRight w ts ws) (base + blockSize) (omega arith));
-          onward = λ e l. absurd (omega (arith, same-size words p));
-        }
-
-    pub stand-end : blockSize ≤ i → Block (addressRight w ts ws) (decode words) base true k
-    stand-end h =
-        let z : base + i ≡ base + blockSize = omega arith in
-        record {
-          splits = s .gone ∙ ap (λ (c : ℕ). rightFrom (addressRight w ts ws) c (decode words)) z;
-          onward = λ e l. s .here (omega (arith, same-size words p)) ∙ ap (carry (decode words)) z;
-        }
+  -- after all n addresses of the block, which are fewer than its size only where the table ends
+  module _ (i n k : ℕ) (s : Stand (addressRight w ts ws) words base (base + i) k) (hi : i ≤ n) (hn : n ≤ i) (most : n ≤ blockSize) where
+    pub stand-end : (n < blockSize → base + n ≡ length words) → Block (addressRight w ts ws) (decode words) base true k
+    stand-end h = go (ℕ-discrete n blockSize)
+      where
+        go : Dec (n ≡ blockSize) → Block (addressRight w ts ws) (decode words) base true k
+        go (yes e) =
+            let z : base + i ≡ base + blockSize = omega arith in
+            record {
+              splits = s .gone ∙ ap (λ (c : ℕ). rightFrom (addressRight w ts ws) c (decode words)) z;
+              onward = λ e l. s .here (omega (arith, same-size words p)) ∙ ap (carry (decode words)) z;
+            }
+        go (no e) =
+            let z : base + n ≡ length words = h (omega arith) in
+            record {
+              splits =
+                  s .gone ∙ right-out words p (addressRight w ts ws) (base + i) (omega arith)
+                  ∙ sym (right-out words p (addressRight w ts ws) (base + blockSize) (omega arith));
+              onward = λ e l. absurd (omega (arith, same-size words p));
+            }
 
 -- ---- block after block
 

@@ -2,4 +2,5 @@
 pub mod Tallies
 pub mod Blocks
 pub mod InUse
+pub mod Walks
 pub mod Stored

@@ -1,72 +1,28 @@
--- The mother hashes that match an address: those of one table are counted in one run, and the tables in use are summed one after the other.
-use mathlib.Core.Path.{_≡_, refl, sym, ap, ap₂, _∙_}
-use mathlib.Core.Bool.{Bool, true, false}
+-- The mother hashes that match the addresses of a block: the tables in use are counted one after the other, and what is counted and what the others hold make the whole.
+use mathlib.Core.Path.{_≡_, refl, sym, ap, ap₂, _∙_, subst}
+use mathlib.Core.Bool.{Bool, true, false, _&&_}
 use mathlib.Core.List.{List, [], _∷_}
-use Prim.Native.Nat.{ℕ, zero, suc, _+_, _-_, _*_, _/_, _%_, _^_, _≤_, _<_}
+use Prim.Native.Nat.{ℕ, _+_, _-_, _*_, _%_, _^_, _≤_, _<_}
 use native.Mathlib.Omega.{arith}
-use native.Mathlib.Nat.{mod-lt, div-lt-iff-lt-mul}
-use lib.Dec.{eqb}
-use lib.Pow.{pow-pos, pow-mono, pow-add}
-use lib.ListN.{length, getD, take, drop, length-map}
+use native.Mathlib.Nat.{mod-lt}
+use native.Mathlib.Decide.{decLt}
+use lib.Dec.{T, eqb}
+use lib.Pow.{pow-pos, pow-mono}
+use lib.ListN.{length, getD, take, drop}
 use Rattle.lists.specs.Lists.{bit, sum}
 use Rattle.lists.specs.Runs.{count}
-use Rattle.slots.specs.Payload.{pay}
-use Rattle.layout.specs.Machine.{Entry, start, more}
-use Rattle.layout.specs.Decode.{turn, entry, stop′, mores, nth, ahead, passed, reading, lastRun, runAt, runsFrom, decode}
-use Rattle.layout.proofs.Same.{turn-length}
+use Rattle.lists.proofs.Tests.{and-left, and-right, test-true}
+use Rattle.layout.specs.Decode.{decode}
+use Rattle.layout.proofs.Puts.{run-room}
 use Rattle.directory.specs.declared.Place.{Place}
 use Rattle.directory.specs.Places.{noPlace, placesInUse}
-use Rattle.rules.specs.Tables.{matching, mothersOf, tables}
-use Rattle.counts.proofs.InUse.{Walk, none-left, not-taken, next-taken, part-is, rest-is}
-
--- ---- one run of any words
-
-runs-get : (words : List ℕ) (n i c : ℕ) → c < n → getD (runsFrom words i n) c [] ≡ runAt words (i + c)
-unfolding runsFrom
-runs-get words zero i c h = absurd (omega arith)
-runs-get words (suc n) i zero h = let e : i ≡ i + 0 = omega arith in ap (runAt words) e
-runs-get words (suc n) i (suc c) h =
-    let e : suc i + c ≡ i + suc c = omega arith in
-    runs-get words n (suc i) c (omega arith) ∙ ap (runAt words) e
-
-decode-get : (words : List ℕ) (c : ℕ) → c < length words → getD (decode words) c [] ≡ runAt words c
-unfolding decode
-decode-get words c h =
-    let e : 0 + c ≡ c = omega arith in
-    runs-get words (length words) 0 c h ∙ ap (runAt words) e
-
-mores-length : (es : List Entry) → length (mores es) ≤ length es
-unfolding mores
-mores-length [] = omega arith
-mores-length (start p ∷ es) = omega arith
-mores-length (more p ∷ es) = omega (arith, mores-length es)
-
-nth-length : (m : ℕ) (es : List Entry) → length (nth m es) ≤ length es
-unfolding nth
-nth-length m [] = omega arith
-nth-length m (more p ∷ es) = omega (arith, nth-length m es)
-nth-length zero (start p ∷ es) = omega (arith, mores-length es)
-nth-length (suc m) (start p ∷ es) = omega (arith, nth-length m es)
-
-stop-length : (b : ℕ) (l : List ℕ) → length (stop′ b l) ≤ length l
-stop-length zero l = omega arith
-stop-length (suc b) l = omega arith
-
-last-length : (ws : List ℕ) → length (lastRun ws) ≤ length ws
-unfolding lastRun
-last-length ws =
-    let l = mathlib.Core.List.reverse ws in
-    omega (
-      arith,
-      stop-length (getD l 0 0 % 2) (reading ws),
-      nth-length (passed l) (ahead ws),
-      length-map (turn (length ws - suc (Rattle.layout.specs.Decode.steps l)) ws) entry,
-      turn-length (length ws - suc (Rattle.layout.specs.Decode.steps l)) ws,
-    )
-
-run-length : (words : List ℕ) (c : ℕ) → length (runAt words c) ≤ length words
-unfolding runAt
-run-length words c = omega (arith, last-length (turn (suc c) words), turn-length (suc c) words)
+use Rattle.rules.specs.Tables.{hashEntry, matching, mothersOf, tables}
+use Rattle.rules.specs.Sound.{tableRight, annexEntry, annexRight}
+use Rattle.sound.specs.Reading.{Laid}
+use Rattle.sound.proofs.Tables.{right-laid}
+use Rattle.counts.specs.Tally.{blockSize, Below, Raised, Stored}
+use Rattle.counts.proofs.InUse.{Walk, none-left, not-taken, next-taken, part-is, rest-is, walk-below, walk-most, walk-size, walk-few}
+use Rattle.counts.proofs.Blocks.{same-size, small}
 
 bit-le : (b : Bool) → bit b ≤ 1
 bit-le true = omega arith
@@ -77,7 +33,7 @@ unfolding count
 count-le p [] = omega arith
 count-le p (x ∷ l) = omega (arith, count-le p l, bit-le (eqb p x))
 
--- ---- one table
+-- ---- sizes
 
 pub power-20 : (k x : ℕ) → k ≤ 20 → x ≡ 2 ^ k → x ≤ 1048576
 power-20 k x h e = omega (arith, pow-mono {i = k} {j = 20} h)
@@ -88,28 +44,21 @@ room-20 s b x e h l = power-20 s x (omega arith) e
 pub room-1 : (s x : ℕ) → x ≡ 2 ^ s → 3 ≤ s → 1 < x
 room-1 s x e h = omega (arith, pow-mono {i = 3} {j = s} h)
 
-pub rem-small : (k c x n : ℕ) → x ≡ 2 ^ k → n ≡ 2 ^ k → c % x < n
-rem-small k c x n e f = rw (e, f) (mod-lt c (pow-pos k))
+-- ---- one table
 
-pub rem-20 : (s b c x : ℕ) → x ≡ 2 ^ s → s < b → b ≤ 20 → c % x < 1048576
-rem-20 s b c x e h l = omega (arith, room-20 s b x e h l, rem-small s c x (2 ^ s) e refl)
-
-pub print-small : (b s c all low : ℕ) → s < b → all ≡ 2 ^ b → low ≡ 2 ^ s → c % all / low < 2 ^ (b - s)
-print-small b s c all low h ea el =
-    let z : b - s + s ≡ b = omega arith in
-    let e : 2 ^ (b - s) * 2 ^ s ≡ 2 ^ b = sym (pow-add 2 (b - s) s) ∙ ap (λ (x : ℕ). 2 ^ x) z in
-    let l : c % 2 ^ b < 2 ^ (b - s) * 2 ^ s = rw e (mod-lt c (pow-pos b)) in
-    rw (ea, el) (div-lt-iff-lt-mul (pow-pos s) .1 l)
-
-pub counted-small : (part : List ℕ) (b s a p r : ℕ) → length part ≡ 2 ^ s → s < b → b ≤ 20 → r ≡ count p (runAt part a) → r ≤ 1048576
-counted-small part b s a p r n h l e = omega (arith, room-20 s b (length part) n h l, count-le p (runAt part a), run-length part a)
-
-pub matched : (b s c all low p r : ℕ) (part : List ℕ) → length part ≡ 2 ^ s → all ≡ 2 ^ b → low ≡ 2 ^ s → p ≡ pay 18 (b - s) (c % all / low)
-    → r ≡ count p (runAt part (c % low)) → r ≡ matching c (record { b = b; s = s; runs = decode part })
+-- it has at most as many mother hashes for an address as slots
+few-match : (c b s : ℕ) (part : List ℕ) → Laid part → length part ≡ 2 ^ s → length part ≤ 1048576 → matching c (record { b = b; s = s; runs = decode part }) ≤ 1048576
 unfolding matching
-matched b s c all low p r part n ea el ep er =
-    er ∙ ap₂ (λ (x : ℕ) (l : List ℕ). count x l) (ep ∙ ap₂ (λ (x y : ℕ). pay 18 (b - s) (c % x / y)) ea el)
-    (sym (decode-get part (c % low) (rem-small s c low (length part) el n)) ∙ ap (λ (y : ℕ). getD (decode part) (c % y) []) el)
+few-match c b s part laid n h =
+    let runs = decode part in
+    let i = c % 2 ^ s in
+    let l : i < length runs = omega (arith, mod-lt c (pow-pos s), same-size part laid) in
+    omega (
+      arith,
+      count-le (hashEntry b s (c % 2 ^ b)) (getD runs i []),
+      run-room runs i l (small part laid),
+      laid .small,
+    )
 
 -- ---- one table after the other: after i places, with `total` counted
 
@@ -147,3 +96,77 @@ module _ (places : List Place) (annex : List ℕ) (c i at total : ℕ) (s : Sum 
         (sym (ex ∙ ap (λ (l : List ℕ). matching c (record { b = p .b; s = p .s; runs = decode l })) (part-is places i p hi ep nz annex at w size es))) in
         let f : rest ≡ mothersOf c (tables ps (drop (at + size) annex)) = ap (λ (a : List ℕ). mothersOf c (tables ps a)) (rest-is places i p hi ep nz annex at w size es) in
         record { left = omega (arith, s .left); few = omega (arith, s .few) }
+
+-- ---- for each address of a block
+
+pub record Sums (places : List Place) (annex : List ℕ) (base n i at : ℕ) (mothers : List ℕ) : Type 0 where
+  pub size : length mothers ≡ blockSize
+  pub each : (j : ℕ) → j < n → Sum places annex (base + j) i at (getD mothers j 0)
+  pub others : (j : ℕ) → n ≤ j → getD mothers j 0 ≡ 0
+  pub good : T (annexRight (placesInUse (drop i places)) (drop at annex))
+
+module _ (places : List Place) (annex : List ℕ) (base n : ℕ) where
+  pub sums-start : (mothers : List ℕ) → length mothers ≡ blockSize → Below 0 mothers → T (annexRight (placesInUse places) annex) → Sums places annex base n 0 0 mothers
+  sums-start mothers e z t =
+      let none : (j : ℕ) → getD mothers j 0 ≡ 0 = λ j. omega (arith, z j) in
+      record {
+        size = e;
+        each = λ j h. subst (Sum places annex (base + j) 0 0) (sym (none j)) (sum-start places annex (base + j));
+        others = λ j h. none j;
+        good = t;
+      }
+
+  module _ (i at : ℕ) (mothers : List ℕ) (u : Sums places annex base n i at mothers) where
+    pub sums-end : length places ≤ i → Stored base n (tables (placesInUse places) annex) mothers
+    sums-end h = record { size = u .size; stored = λ j l. sum-end places annex (base + j) i at (getD mothers j 0) (u .each j l) h }
+
+    pub sums-small : i ≤ 15 → Below 15728640 mothers
+    sums-small h j = go (decLt j n)
+      where
+        go : Dec (j < n) → getD mothers j 0 ≤ 15728640
+        go (yes l) = omega (arith, u .each j l .few)
+        go (no l) = omega (arith, u .others j (omega arith))
+
+    module _ (p : Place) (hi : i < length places) (ep : p ≡ getD places i noPlace) where
+      pub sums-stop : p .b ≡ 0 → Stored base n (tables (placesInUse places) annex) mothers
+      sums-stop z = record { size = u .size; stored = λ j l. sum-stop places annex (base + j) i at (getD mothers j 0) (u .each j l) p hi ep z }
+
+      module _ (nz : p .b ≡ 0 → ⊥) (w : Walk places annex i at) (size : ℕ) (es : size ≡ 2 ^ p .s) where
+        abbrev part : List ℕ
+        part = take (at + size - at) (drop at annex)
+
+        abbrev table : Bool
+        table = tableRight (annexEntry (p .b - p .s)) (p .count) part
+
+        abbrev others-right : Bool
+        others-right = annexRight (placesInUse (drop (i + 1) places)) (drop (at + size) annex)
+
+        right : T (table && others-right)
+        unfolding annexRight
+        right =
+            subst T
+            (ap (λ (l : List Place). annexRight l (drop at annex)) (next-taken places i p hi ep nz)
+            ∙ ap₂ (λ (x y : List ℕ). tableRight (annexEntry (p .b - p .s)) (p .count) x && annexRight (placesInUse (drop (i + 1) places)) y)
+            (sym (part-is places i p hi ep nz annex at w size es)) (rest-is places i p hi ep nz annex at w size es))
+            (u .good)
+
+        pub sums-laid : Laid part
+        sums-laid =
+            right-laid (annexEntry (p .b - p .s)) (p .count) part (walk-few places i p hi ep nz annex at w size es)
+            (test-true table (and-left table others-right right))
+
+        pub sums-on : (after : List ℕ) → Raised (λ c. matching c (record { b = p .b; s = p .s; runs = decode part })) base n mothers after
+            → Sums places annex base n (i + 1) (at + size) after
+        sums-on after r =
+            record {
+              size = r .size ∙ u .size;
+              each =
+                  λ j h. subst (Sum places annex (base + j) (i + 1) (at + size)) (sym (r .raised j h))
+                  (sum-on places annex (base + j) i at (getD mothers j 0) (u .each j h) p hi ep nz w size
+                  (matching (base + j) (record { b = p .b; s = p .s; runs = decode part })) es refl
+                  (few-match (base + j) (p .b) (p .s) part sums-laid (walk-size places i p hi ep nz annex at w size es)
+                  (room-20 (p .s) (p .b) (length part) (walk-size places i p hi ep nz annex at w size es) (walk-below places i p hi ep nz annex at w)
+                  (walk-most places i p hi ep nz annex at w))));
+              others = λ j h. r .others j h ∙ u .others j h;
+              good = and-right table others-right right;
+            }

@@ -14,7 +14,7 @@ use Rattle.lists.specs.Runs.{count}
 use Rattle.lists.proofs.Tests.{no-true, is, is-yes, is-no}
 use Rattle.lists.proofs.RunLaws.{count-append}
 use Rattle.rules.specs.Sound.{naming}
-use Rattle.counts.specs.Tally.{blockSize, Tallied, Others}
+use Rattle.counts.specs.Tally.{blockSize, Tallied, Others, Below}
 use Rattle.counts.proofs.Stored.{count-le}
 
 naming-append : (c : ℕ) (a b : List ℕ) → naming c (a ++ b) ≡ naming c a + naming c b
@@ -37,6 +37,9 @@ zeros : (n j : ℕ) → getD {A = ℕ} (replicate n 0) j 0 ≡ 0
 zeros zero j = refl
 zeros (suc n) zero = refl
 zeros (suc n) (suc j) = zeros n j
+
+pub none-raised : (n : ℕ) → Below 0 (replicate n 0)
+none-raised n j = omega (arith, zeros n j)
 
 bit-even : (a w : ℕ) → a ≡ w / 2 → is (a * 2) w ≡ 1 - w % 2
 bit-even a w e = go (ℕ-discrete (w % 2) 0)

@@ -1,8 +1,8 @@
 // The audit of the counts: tombstones and voids of every address against queue words and mother hashes.
 ghost use mathlib.Core.Path.{_≡_};
 ghost use mathlib.Core.Bool.{false, _&&_};
-ghost use mathlib.Core.List.{[]};
-ghost use Prim.Native.Nat.{_+_, _-_, _/_, _%_, _^_, _≤_, _<_};
+ghost use mathlib.Core.List.{List, []};
+ghost use Prim.Native.Nat.{ℕ, _+_, _-_, _/_, _%_, _^_, _≤_, _<_};
 ghost use lib.Dec.{T, eqb};
 ghost use lib.ListN.{length, take};
 ghost use Rattle.lists.specs.Runs.{count};
@@ -10,9 +10,10 @@ ghost use Rattle.slots.specs.Payload.{tombstone, void};
 ghost use Rattle.layout.specs.Decode.{decode};
 ghost use Rattle.layout.specs.Document.{carry};
 ghost use Rattle.directory.specs.Places.{placesInUse, directoryRight, wordsTaken};
-ghost use Rattle.rules.specs.Tables.{matching, mothersOf, tables};
+ghost use Rattle.rules.specs.Tables.{Table, matching, tables};
+ghost use Rattle.rules.specs.Sound.{annexRight, addressRight};
 ghost use Rattle.sound.specs.Reading.{Laid, readAt};
-ghost use Rattle.counts.specs.Tally.{blockSize, Tallied, Others};
+ghost use Rattle.counts.specs.Tally.{blockSize, Tallied, Others, Below, Raised, Stored};
 ghost use Rattle.counts.specs.Blocks.{addressTest, rightFrom, Block};
 
 // How many addresses a block has. One pass over the queue counts the words of one block, in counters on the stack.
@@ -99,42 +100,58 @@ fn tally_block(queue: &[u32], base: u32, names: &mut [u32], evens: &mut [u32])
     tally_words(queue, q, n, base, names, evens);
 }
 
-// How many mother hashes of one annex table match address c.
-fn matching_in(part: &[u32], b: u32, s: u32, c: u32) -> u32
-    requires { ⌜ (3 ≤ s) × (s < b) × (b ≤ 20) × (length (now part) ≡ 2 ^ s) ⌝ }
-    ensures { λ r. ⌜ (r ≡ matching c (record { b = b; s = s; runs = decode (now (part .entry)) })) × (r ≤ 1048576) ⌝ }
+// Adds to the counters of the block's first n addresses how many mother hashes of one annex table match each. The runs are read in the order of the addresses, each
+// from where the one before ends; the payload changes where the table begins anew.
+fn tally_table(part: &[u32], b: u32, s: u32, base: u32, n: usize, mothers: &mut [u32])
+    requires { ⌜ (3 ≤ s) × (s < b) × (b ≤ 20) × (length (now part) ≡ 2 ^ s) × Laid (now part) × (base ≤ 1048576) × (n ≤ blockSize) × (length (now mothers) ≡ blockSize)
+        × Below 15728640 (now mothers) ⌝ }
+    ensures { λ r. ⌜ Raised (λ c. matching c (record { b = b; s = s; runs = decode (now (part .entry)) })) base n (now (mothers .entry)) (now (mothers .exit)) ⌝ }
 {
-    let low = slots::pow2(s);
-    let all = slots::pow2(b);
-    let f = c % all / low;
-    let p = slots::encode(18, b - s, f);
-    let a = (c % low) as usize;
-    let m = lookup::count_in_run(part, a, p);
-    m as u32
+    let size = part.len();
+    let mut a = annex::hash_slot(s, base);
+    let mut p = annex::hash_entry(b, s, base);
+    let first = lookup::locate(part, a);
+    let mut k = first.carry;
+    let mut i: usize = 0;
+    while i < n {
+        let run = sound::read_run(part, a, k, p, p);
+        mothers[i] = mothers[i] + run.voids;
+        k = onward(k, run.len);
+        a = lookup::around(a, 1, size);
+        i = i + 1;
+        if a == 0 {
+            let c = base + i as u32;
+            p = annex::hash_entry(b, s, c);
+        }
+    }
 }
 
-// How many mother hashes match address c.
-fn mothers(places: [directory::Place; 15], annex: &[u32], c: u32) -> u32
-    requires { ⌜ T (directoryRight 20 places) × (wordsTaken (placesInUse places) ≤ length (now annex)) ⌝ }
-    ensures { λ r. ⌜ r ≡ mothersOf c (tables (placesInUse places) (now (annex .entry))) ⌝ }
+// How many mother hashes match each of the block's first n addresses, in counters that are 0 before.
+fn tally_mothers(
+    places: [directory::Place; 15],
+    annex: &[u32],
+    base: u32,
+    n: usize,
+    mothers: &mut [u32],
+)
+    requires { ⌜ T (directoryRight 20 places) × (wordsTaken (placesInUse places) ≤ length (now annex)) × T (annexRight (placesInUse places) (now annex))
+        × (base ≤ 1048576) × (n ≤ blockSize) × (length (now mothers) ≡ blockSize) × Below 0 (now mothers) ⌝ }
+    ensures { λ r. ⌜ Stored base n (tables (placesInUse places) (now (annex .entry))) (now (mothers .exit)) ⌝ }
 {
-    let mut total: u32 = 0;
     let mut at: usize = 0;
     let mut i: usize = 0;
     while i < 15 {
         let p = places[i];
         if p.b == 0 {
-            return total;
+            return;
         }
         let size = directory::table_words(p.s);
         let end = at + size;
         let part = &annex[at..end];
-        let x = matching_in(part, p.b, p.s, c);
-        total = total + x;
+        tally_table(part, p.b, p.s, base, n, mothers);
         at = end;
         i = i + 1;
     }
-    total
 }
 
 // a less b, or 0 if that is negative.
@@ -164,31 +181,73 @@ pub struct Checked {
 }
 
 // Whether address c has the tombstones and voids that it must have, and how many entries wait on arrival at the next: k wait here, `named` queue words name c,
-// and `evens` of them are even.
+// `evens` of them are even, and `mothers` mother hashes match c.
 fn address_right(
     words: &[u32],
     w: u32,
-    places: [directory::Place; 15],
-    annex: &[u32],
     c: usize,
     k: usize,
     named: u32,
     evens: u32,
+    mothers: u32,
 ) -> Checked
-    requires { ⌜ (c < length (now words)) × (k < length (now words)) × (length (now words) ≤ 1048576) × (1 ≤ w) × (w ≤ 26)
-        × T (directoryRight 20 places) × (wordsTaken (placesInUse places) ≤ length (now annex)) ⌝ }
+    requires { ⌜ (c < length (now words)) × (k < length (now words)) × (length (now words) ≤ 1048576) × (1 ≤ w) × (w ≤ 26) ⌝ }
     ensures { λ r. ⌜ (r .good ≡ (eqb (count (tombstone w) (readAt (now (words .entry)) c k)) evens
-        && eqb (count (void w) (readAt (now (words .entry)) c k)) (mothersOf c (tables (placesInUse places) (now (annex .entry))) - named)))
+        && eqb (count (void w) (readAt (now (words .entry)) c k)) (mothers - named)))
         × (r .carry ≡ k + length (readAt (now (words .entry)) c k) - 1) ⌝ }
 {
     let t = slots::tombstone_of(w);
     let v = slots::void_of(w);
     let run = sound::read_run(words, c, k, t, v);
-    let m = mothers(places, annex, c as u32);
-    let want = less(m, named);
+    let want = less(mothers, named);
     Checked {
         good: (run.tombstones == evens) & (run.voids == want),
         carry: onward(k, run.len),
+    }
+}
+
+// How many addresses of a table of `len` slots are in the block from base on.
+fn addresses(len: usize, base: usize) -> usize
+    requires { ⌜ base < len ⌝ }
+    ensures { λ r. ⌜ (r ≤ blockSize) × (base + r ≤ len) × (r < blockSize → base + r ≡ len) ⌝ }
+{
+    if len - base < BLOCK {
+        return len - base;
+    }
+    BLOCK
+}
+
+// Whether the n addresses of the block from base on have the tombstones and voids that the counters ask for, where `waiting` entries wait on arrival at the first.
+fn addresses_right(
+    words: &[u32],
+    w: u32,
+    base: usize,
+    n: usize,
+    waiting: usize,
+    names: &[u32],
+    evens: &[u32],
+    mothers: &[u32],
+) -> Checked
+    requires { ⌜ Laid (now words) × (length (now words) ≤ 1048576) × (1 ≤ w) × (w ≤ 26) × (n ≤ blockSize) × (base + n ≤ length (now words)) × (n < blockSize → base + n ≡ length (now words))
+        × (length (now names) ≡ blockSize) × (length (now evens) ≡ blockSize) × (length (now mothers) ≡ blockSize) × (waiting ≡ carry (decode (now words)) base) ⌝ }
+    ensures { λ r. ⌜ ((ts : List Table) → (ws : List ℕ) → Tallied base ws (now (names .entry)) (now (evens .entry)) → Stored base n ts (now (mothers .entry))
+        → Block (addressRight w ts ws) (decode (now (words .entry))) base (r .good) (r .carry)) ⌝ }
+{
+    let mut k = waiting;
+    let mut i: usize = 0;
+    while i < n {
+        let c = base + i;
+        let d = address_right(words, w, c, k, names[i], evens[i], mothers[i]);
+        if d.good {
+            k = d.carry;
+            i = i + 1;
+        } else {
+            return d;
+        }
+    }
+    Checked {
+        good: true,
+        carry: k,
     }
 }
 
@@ -203,34 +262,17 @@ fn block_right(
     waiting: usize,
 ) -> Checked
     requires { ⌜ Laid (now words) × (base % blockSize ≡ 0) × (base < length (now words)) × (length (now words) ≤ 1048576) × (1 ≤ w) × (w ≤ 26) × (length (now queue) ≤ 1048576)
-        × T (directoryRight 20 places) × (wordsTaken (placesInUse places) ≤ length (now annex)) × (waiting ≡ carry (decode (now words)) base) ⌝ }
+        × T (directoryRight 20 places) × (wordsTaken (placesInUse places) ≤ length (now annex)) × T (annexRight (placesInUse places) (now annex))
+        × (waiting ≡ carry (decode (now words)) base) ⌝ }
     ensures { λ r. ⌜ Block (addressTest w places (now (annex .entry)) (now (queue .entry))) (decode (now (words .entry))) base (r .good) (r .carry) ⌝ }
 {
     let mut names = [0u32; BLOCK];
     let mut evens = [0u32; BLOCK];
+    let mut mothers = [0u32; BLOCK];
+    let n = addresses(words.len(), base);
     tally_block(queue, base as u32, &mut names, &mut evens);
-    let mut k = waiting;
-    let mut i: usize = 0;
-    while i < BLOCK {
-        let c = base + i;
-        if words.len() <= c {
-            return Checked {
-                good: true,
-                carry: k,
-            };
-        }
-        let d = address_right(words, w, places, annex, c, k, names[i], evens[i]);
-        if d.good {
-            k = d.carry;
-            i = i + 1;
-        } else {
-            return d;
-        }
-    }
-    Checked {
-        good: true,
-        carry: k,
-    }
+    tally_mothers(places, annex, base as u32, n, &mut mothers);
+    addresses_right(words, w, base, n, waiting, &names, &evens, &mothers)
 }
 
 // Whether every address has the tombstones and voids that it must have.
@@ -242,7 +284,7 @@ pub fn counts_right(
     annex: &[u32],
 ) -> bool
     requires { ⌜ Laid (now words) × (1 < length (now words)) × (length (now words) ≤ 1048576) × (1 ≤ w) × (w ≤ 26) × (length (now queue) ≤ 1048576)
-        × T (directoryRight 20 places) × (wordsTaken (placesInUse places) ≤ length (now annex)) ⌝ }
+        × T (directoryRight 20 places) × (wordsTaken (placesInUse places) ≤ length (now annex)) × T (annexRight (placesInUse places) (now annex)) ⌝ }
     ensures { λ r. ⌜ r ≡ rightFrom (addressTest w places (now (annex .entry)) (now (queue .entry))) 0 (decode (now (words .entry))) ⌝ }
 {
     let len = words.len();

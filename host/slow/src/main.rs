@@ -6,7 +6,8 @@
 //!
 //! A row is 2^20 slots of different filters, one filter after the other: a call at night finds its
 //! words in no cache and its branches in no memory of the processor, and a small filter that is
-//! called over and over would find both.
+//! called over and over would find both. Each round goes through all rows, so that a processor whose
+//! speed changes is as fast for one row as for the other.
 
 #[path = "../../bench/src/clock.rs"]
 mod clock;
@@ -19,7 +20,7 @@ const LEAST: u32 = 3;
 const FIRST: u32 = 12;
 const LAST: u32 = 20;
 const DOUBLINGS: u32 = 10;
-const ROUNDS: usize = 7;
+const ROUNDS: usize = 9;
 
 /// An odd number: its multiples visit every address once, far from one another.
 const STRIDE: u64 = 0x9e37_79b9_7f4a_7c15;
@@ -32,21 +33,6 @@ struct Session {
     queue: Vec<u32>,
     annex: Vec<u32>,
     random: u64,
-}
-
-/// Filters of one size, of different hashes.
-struct Filters(Vec<Session>);
-
-/// The times of one size in seconds for each filter, the annex tables of one, and the queue words
-/// of all for each filter.
-struct Times {
-    pass: f64,
-    audit: f64,
-    audit_queue: f64,
-    settle: f64,
-    double: f64,
-    tables: usize,
-    queued: usize,
 }
 
 fn timed(work: impl FnOnce() -> u32) -> f64 {
@@ -139,6 +125,12 @@ impl Session {
         }
     }
 
+    /// Settles, and fills the table again.
+    fn settle_and_fill(&mut self) {
+        self.settle();
+        self.fill();
+    }
+
     /// The lengths of the annex tables in use.
     fn tables(&self) -> impl Iterator<Item = usize> + '_ {
         let places = self.filter.annex.iter().take_while(|place| place[0] != 0);
@@ -182,86 +174,101 @@ impl Session {
     }
 }
 
-impl Filters {
-    fn grown(k: u32, doublings: u32) -> Filters {
-        let seeds = 0..1 << (LAST - k);
-        Filters(seeds.map(|s| Session::grown(k, doublings, s)).collect())
-    }
+/// Filters of one size and of different hashes, and for each the least time of one call.
+struct Timing {
+    filters: Vec<Session>,
+    call: fn(&mut Session) -> f64,
+    least: Vec<f64>,
+}
 
-    /// Something done to each, for which the clock is not read.
-    fn all(&mut self, work: fn(&mut Session)) {
-        self.0.iter_mut().for_each(work);
-    }
-
-    /// The seconds of a call for each filter, the best of several rounds. Each round works on a copy.
-    fn best(&self, call: fn(&mut Session) -> f64) -> f64 {
-        let round = |_| {
-            let mut copies = self.0.clone();
-            copies.iter_mut().map(call).sum::<f64>() / copies.len() as f64
-        };
-        (0..ROUNDS).map(round).fold(f64::INFINITY, f64::min)
-    }
-
-    /// The times of tables filled to the load limit.
-    fn measure(mut self) -> Times {
-        let audit = self.best(Session::audit);
-        self.all(Session::fill_queue);
-        let pass = self.best(Session::pass);
-        let audit_queue = self.best(Session::audit);
-        let settle = self.best(Session::settle);
-        let tables = self.0[0].tables().count();
-        let queued = self.0.iter().map(Session::queued).sum::<usize>() / self.0.len();
-        let last = self.0[0].filter.numbers[0] == LAST;
-        let double = if last {
-            0.0
-        } else {
-            self.all(|session| drop(session.settle()));
-            self.all(Session::fill);
-            self.best(Session::double)
-        };
-        Times {
-            pass,
-            audit,
-            audit_queue,
-            settle,
-            double,
-            tables,
-            queued,
+impl Timing {
+    fn new(filters: &[Session], call: fn(&mut Session) -> f64) -> Timing {
+        Timing {
+            filters: filters.to_vec(),
+            call,
+            least: vec![f64::INFINITY; filters.len()],
         }
     }
-}
 
-/// Milliseconds, and how many times those of the row before.
-fn cell(now: f64, before: Option<f64>) -> String {
-    if now == 0.0 {
-        return String::from("-");
+    /// The call on a copy of each, one after the other.
+    fn round(&mut self) {
+        let mut copies = self.filters.clone();
+        for (copy, least) in copies.iter_mut().zip(&mut self.least) {
+            *least = least.min((self.call)(copy));
+        }
     }
-    let ratio = before.map_or(String::from("-"), |b| format!("{:.2}", now / b));
-    format!("{:.3} ({ratio})", now * 1000.0)
+
+    /// The mean for one filter, in seconds.
+    fn seconds(&self) -> f64 {
+        self.least.iter().sum::<f64>() / self.least.len() as f64
+    }
 }
 
-fn row(k: u32, now: &Times, before: Option<&Times>) -> String {
-    let of = |part: fn(&Times) -> f64| cell(part(now), before.map(part));
-    let cells = [
-        now.tables.to_string(),
-        of(|t| t.pass),
-        of(|t| t.audit),
-        now.queued.to_string(),
-        of(|t| t.audit_queue),
-        of(|t| t.settle),
-        of(|t| t.double),
-    ];
-    format!("| 2^{k} | {} |", cells.join(" | "))
+/// What is timed of one size: one pass, Audit, Audit with a full queue, Settle, and Double but for
+/// the last size.
+struct Row {
+    k: u32,
+    tables: usize,
+    queued: usize,
+    timings: Vec<Timing>,
+}
+
+impl Row {
+    fn new(k: u32, doublings: u32) -> Row {
+        let seeds = 0..1u64 << (LAST - k);
+        let filled: Vec<_> = seeds.map(|s| Session::grown(k, doublings, s)).collect();
+        let mut queued = filled.clone();
+        queued.iter_mut().for_each(Session::fill_queue);
+        let mut settled = queued.clone();
+        settled.iter_mut().for_each(Session::settle_and_fill);
+        let mut timings = vec![
+            Timing::new(&queued, Session::pass),
+            Timing::new(&filled, Session::audit),
+            Timing::new(&queued, Session::audit),
+            Timing::new(&queued, Session::settle),
+        ];
+        if k < LAST {
+            timings.push(Timing::new(&settled, Session::double));
+        }
+        Row {
+            k,
+            tables: queued[0].tables().count(),
+            queued: queued.iter().map(Session::queued).sum::<usize>() / queued.len(),
+            timings,
+        }
+    }
+
+    fn print(&self, before: Option<&Row>) {
+        let mut cells: Vec<_> = (0..5).map(|i| self.cell(i, before)).collect();
+        cells.insert(2, self.queued.to_string());
+        cells.insert(0, self.tables.to_string());
+        println!("| 2^{} | {} |", self.k, cells.join(" | "));
+    }
+
+    /// Milliseconds, and how many times those of the row before.
+    fn cell(&self, i: usize, before: Option<&Row>) -> String {
+        let Some(timing) = self.timings.get(i) else {
+            return String::from("-");
+        };
+        let now = timing.seconds();
+        let ratio = before.and_then(|row| Some(now / row.timings.get(i)?.seconds()));
+        let ratio = ratio.map_or(String::from("-"), |r| format!("{r:.2}"));
+        format!("{:.3} ({ratio})", now * 1000.0)
+    }
 }
 
 fn main() {
+    let sizes = (FIRST..=LAST).map(|k| (k, DOUBLINGS.min(k - LEAST)));
+    let sizes = sizes.chain([(LAST, LAST - LEAST)]);
+    let mut rows: Vec<_> = sizes.map(|(k, doublings)| Row::new(k, doublings)).collect();
+    for _ in 0..ROUNDS {
+        for timing in rows.iter_mut().flat_map(|row| &mut row.timings) {
+            timing.round();
+        }
+    }
     println!("| slots | annex tables | one pass, ms (ratio) | Audit, empty queue, ms (ratio) | queue words | Audit with them, ms (ratio) | Settle, ms (ratio) | Double, ms (ratio) |");
     println!("|---|---|---|---|---|---|---|---|");
-    let mut before: Option<Times> = None;
-    let sizes = (FIRST..=LAST).map(|k| (k, DOUBLINGS.min(k - LEAST)));
-    for (k, doublings) in sizes.chain([(LAST, LAST - LEAST)]) {
-        let now = Filters::grown(k, doublings).measure();
-        println!("{}", row(k, &now, before.as_ref()));
-        before = Some(now);
+    for (i, row) in rows.iter().enumerate() {
+        row.print(i.checked_sub(1).map(|before| &rows[before]));
     }
 }

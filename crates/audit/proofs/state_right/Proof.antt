@@ -6,7 +6,7 @@ use borrow.Author.Needs.{needs}
 use Rattle.counts.proofs.InUse.{directory-20}
 use Rattle.counts.proofs.Stored.{power-20, room-1}
 use Rattle.audit.specs.Queue.{addressesBelow}
-use Rattle.audit.proofs.Wholes.{below-limit, part-small, so-laid, no-table, no-annex, no-queue, all-counts}
+use Rattle.audit.proofs.Wholes.{below-limit, part-small, so-laid, so-stored, no-table, no-annex, no-queue, all-counts}
 use Rattle.audit.proofs.state_right.Statement.{statement}
 use Rattle.audit.proofs.state_right.Tie as tie
 
@@ -26,7 +26,7 @@ queue-right-requires : tie.Need-queue-right-requires
 queue-right-requires c κs = search needs
 
 counts-right-requires : tie.Need-counts-right-requires
-counts-right-requires c κs = (search (needs, so-laid), search (needs, room-1), search (needs, power-20), search needs, search needs, search (needs, part-small), search (needs, directory-20), search needs)
+counts-right-requires c κs = (search (needs, so-laid), search (needs, room-1), search (needs, power-20), search needs, search needs, search (needs, part-small), search (needs, directory-20), search needs, search (needs, so-stored))
 
 returns : tie.Need-returns
 returns c =

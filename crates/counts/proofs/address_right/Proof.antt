@@ -1,4 +1,4 @@
--- What was read of the run is compared with what the queue and the annex ask for.
+-- What was read of the run is compared with what the counters ask for.
 use borrow.Author.Needs.{needs}
 use Rattle.sound.proofs.Readings.{agree, onwards}
 use Rattle.counts.proofs.address_right.Statement.{statement}
@@ -12,12 +12,6 @@ void-of-requires c κs = search needs
 
 read-run-requires : tie.Need-read-run-requires
 read-run-requires c κs = search needs
-
-cast-mothers : tie.Need-cast-mothers
-cast-mothers c = search needs
-
-mothers-requires : tie.Need-mothers-requires
-mothers-requires c κs = search needs
 
 less-requires : tie.Need-less-requires
 less-requires c κs = search needs
@@ -35,8 +29,6 @@ address-right-spec =
     tombstone-of-requires
     void-of-requires
     read-run-requires
-    cast-mothers
-    mothers-requires
     less-requires
     onward-requires
     returns)

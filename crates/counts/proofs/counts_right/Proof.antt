@@ -22,7 +22,7 @@ loop-holds : tie.Need-loop-holds Inv-loop μ-loop
 loop-holds c = (omega arith, omega arith, search (needs, blocks-start))
 
 block-right-requires : tie.Need-block-right-requires Inv-loop μ-loop
-block-right-requires c κs = (search needs, omega arith, search needs, search needs, search needs, search needs, search needs, search needs, search needs, search (needs, stand-carry))
+block-right-requires c κs = (search needs, omega arith, search needs, search needs, search needs, search needs, search needs, search needs, search needs, search needs, search (needs, stand-carry))
 
 add-base : tie.Need-add-base Inv-loop μ-loop
 add-base c = search needs
