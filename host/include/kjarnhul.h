@@ -2,8 +2,9 @@
 ** kjarnhul.h: the C interface of Kjarnhul, a proved Aleph Filter.
 **
 ** A filter holds 64-bit mother hashes and answers whether a hash may be among them. For hashes
-** that were inserted and not deleted the answer is always yes; for others it is mostly no. The
-** host hashes its values itself. Two equal hashes are the same value held twice.
+** that were inserted and not deleted the answer is always yes, as long as Delete and Rejuvenate
+** are called with held hashes only; for others it is mostly no. The host hashes its values
+** itself. Two equal hashes are the same value held twice.
 **
 ** Link with libkjarnhul.a. The library allocates nothing, keeps nothing between two calls, and
 ** calls nothing but memcpy and memset: all that a call reads and writes is what it is lent.
@@ -50,9 +51,9 @@
 ** WHAT IS PROVED
 **
 ** Each call is proved to meet a contract that says its number, the record and every lent word,
-** for all input that keeps to the rules above, refused calls too. The only exception are the
-** quick calls on a state that is not sound, to which no call leads from a sound one: what they
-** do then is told at each call. kj_audit says whether a state is sound.
+** for all input that keeps to the rules above, refused calls too. The only exception are
+** kj_insert, kj_delete and kj_rejuvenate on a state that is not sound, to which no call leads from
+** a sound one: what they do then is told at each call. kj_audit says whether a state is sound.
 */
 #ifndef KJARNHUL_H
 #define KJARNHUL_H
@@ -162,8 +163,8 @@ uint32_t kj_query(const kj_filter *filter, const uint32_t *main, size_t main_wor
 **   KJ_LENGTH     main is not 2^k words, or queue or annex is shorter than the record uses
 **   KJ_FULL       `used` is at the load limit: Settle, then Double
 **
-** On a state that is not sound the record keeps its settings and its directory, and the annex
-** its words; refused, nothing is changed.
+** On a state that is not sound KJ_OK does not say that the entry is in main. The record keeps its
+** settings and its directory, and the annex its words; refused, nothing is changed.
 */
 uint32_t kj_insert(kj_filter *filter, uint32_t *main, size_t main_words, uint32_t *queue,
                    size_t queue_words, uint32_t *annex, size_t annex_words, uint64_t hash);
@@ -192,8 +193,8 @@ uint32_t kj_delete(kj_filter *filter, uint32_t *main, size_t main_words, uint32_
 ** REJUVENATE
 **
 ** Gives the longest match of the hash a fresh fingerprint of this hash, if it is shorter than
-** fresh ones. To be called when the host has seen that the hash is held, so that later answers
-** are sharper.
+** fresh ones, so that later answers are sharper. Only a hash that is held may be rejuvenated: the
+** filter can't tell, and rejuvenating another may take the entry of a hash that is held.
 **
 **   KJ_OK         the longest match is a fresh entry of the hash; if it was void, the queue has
 **                 one word more for Settle. A match of full length stays, and nothing is changed

@@ -20,7 +20,7 @@ use Rattle.rules.specs.Tables.{hashEntry, matching, mothersOf, tables}
 use Rattle.rules.specs.Sound.{tableRight, annexEntry, annexRight}
 use Rattle.sound.specs.Reading.{Laid}
 use Rattle.sound.proofs.Tables.{right-laid}
-use Rattle.counts.specs.Tally.{blockSize, Below, Raised, Stored}
+use Rattle.counts.specs.Tally.{blockSize, AtMost, Raised, Stored}
 use Rattle.counts.proofs.InUse.{Walk, none-left, not-taken, next-taken, part-is, rest-is, walk-below, walk-most, walk-size, walk-few}
 use Rattle.counts.proofs.Blocks.{same-size, small}
 
@@ -106,7 +106,7 @@ pub record Sums (places : List Place) (annex : List ℕ) (base n i at : ℕ) (mo
   pub good : T (annexRight (placesInUse (drop i places)) (drop at annex))
 
 module _ (places : List Place) (annex : List ℕ) (base n : ℕ) where
-  pub sums-start : (mothers : List ℕ) → length mothers ≡ blockSize → Below 0 mothers → T (annexRight (placesInUse places) annex) → Sums places annex base n 0 0 mothers
+  pub sums-start : (mothers : List ℕ) → length mothers ≡ blockSize → AtMost 0 mothers → T (annexRight (placesInUse places) annex) → Sums places annex base n 0 0 mothers
   sums-start mothers e z t =
       let none : (j : ℕ) → getD mothers j 0 ≡ 0 = λ j. omega (arith, z j) in
       record {
@@ -120,7 +120,7 @@ module _ (places : List Place) (annex : List ℕ) (base n : ℕ) where
     pub sums-end : length places ≤ i → Stored base n (tables (placesInUse places) annex) mothers
     sums-end h = record { size = u .size; stored = λ j l. sum-end places annex (base + j) i at (getD mothers j 0) (u .each j l) h }
 
-    pub sums-small : i ≤ 15 → Below 15728640 mothers
+    pub sums-small : i ≤ 15 → AtMost 15728640 mothers
     sums-small h j = go (decLt j n)
       where
         go : Dec (j < n) → getD mothers j 0 ≤ 15728640

@@ -14,7 +14,7 @@ use Rattle.lists.specs.Runs.{count}
 use Rattle.lists.proofs.Tests.{no-true, is, is-yes, is-no}
 use Rattle.lists.proofs.RunLaws.{count-append}
 use Rattle.rules.specs.Sound.{naming}
-use Rattle.counts.specs.Tally.{blockSize, Tallied, Others, Below}
+use Rattle.counts.specs.Tally.{blockSize, Tallied, Others, AtMost}
 use Rattle.counts.proofs.Stored.{count-le}
 
 naming-append : (c : ℕ) (a b : List ℕ) → naming c (a ++ b) ≡ naming c a + naming c b
@@ -38,7 +38,7 @@ zeros zero j = refl
 zeros (suc n) zero = refl
 zeros (suc n) (suc j) = zeros n j
 
-pub none-raised : (n : ℕ) → Below 0 (replicate n 0)
+pub none-raised : (n : ℕ) → AtMost 0 (replicate n 0)
 none-raised n j = omega (arith, zeros n j)
 
 bit-even : (a w : ℕ) → a ≡ w / 2 → is (a * 2) w ≡ 1 - w % 2

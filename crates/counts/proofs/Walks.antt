@@ -19,7 +19,7 @@ use Rattle.layout.specs.Moves.{wrap}
 use Rattle.layout.proofs.Same.{carry-next}
 use Rattle.rules.specs.Tables.{hashEntry, matching}
 use Rattle.sound.specs.Reading.{Laid, Read, readAt}
-use Rattle.counts.specs.Tally.{blockSize, Raised, Below}
+use Rattle.counts.specs.Tally.{blockSize, Raised, AtMost}
 use Rattle.counts.proofs.Stored.{count-le}
 use Rattle.counts.proofs.Blocks.{same-size, small, carry-is, carry-small, read-is}
 
@@ -141,7 +141,7 @@ module _ (f : ℕ → ℕ) (base : ℕ) (before : List ℕ) where
     pub raised-in : i < length now
     raised-in = omega (arith, r .size)
 
-    pub raised-small : (m : ℕ) → Below m before → getD now i 0 ≤ m
+    pub raised-small : (m : ℕ) → AtMost m before → getD now i 0 ≤ m
     raised-small m b = omega (arith, r .others i (omega arith), b i)
 
     pub raised-one : (m : ℕ) (after : List ℕ) → m ≡ f (base + i) → after ≡ set now i (getD now i 0 + m) → Raised f base (i + 1) before after

@@ -24,8 +24,8 @@ abbrev pub Others : ℕ → List ℕ → ℕ → ℕ → Type 0
 Others base ws from to = (q : ℕ) → from ≤ q → q < to → getD ws q 0 / 2 / blockSize ≡ base / blockSize → ⊥
 
 -- no counter is larger than m
-abbrev pub Below : ℕ → List ℕ → Type 0
-Below m l = (j : ℕ) → getD l j 0 ≤ m
+abbrev pub AtMost : ℕ → List ℕ → Type 0
+AtMost m l = (j : ℕ) → getD l j 0 ≤ m
 
 -- the counters of the first n addresses from base on rise by what f says of the address, and the others stay
 pub record Raised (f : ℕ → ℕ) (base n : ℕ) (before after : List ℕ) : Type 0 where

@@ -13,7 +13,7 @@ ghost use Rattle.directory.specs.Places.{placesInUse, directoryRight, wordsTake
 ghost use Rattle.rules.specs.Tables.{Table, matching, tables};
 ghost use Rattle.rules.specs.Sound.{annexRight, addressRight};
 ghost use Rattle.sound.specs.Reading.{Laid, readAt};
-ghost use Rattle.counts.specs.Tally.{blockSize, Tallied, Others, Below, Raised, Stored};
+ghost use Rattle.counts.specs.Tally.{blockSize, Tallied, Others, AtMost, Raised, Stored};
 ghost use Rattle.counts.specs.Blocks.{addressTest, rightFrom, Block};
 
 // How many addresses a block has. One pass over the queue counts the words of one block, in counters on the stack.
@@ -104,7 +104,7 @@ fn tally_block(queue: &[u32], base: u32, names: &mut [u32], evens: &mut [u32])
 // from where the one before ends; the payload changes where the table begins anew.
 fn tally_table(part: &[u32], b: u32, s: u32, base: u32, n: usize, mothers: &mut [u32])
     requires { ⌜ (3 ≤ s) × (s < b) × (b ≤ 20) × (length (now part) ≡ 2 ^ s) × Laid (now part) × (base ≤ 1048576) × (n ≤ blockSize) × (length (now mothers) ≡ blockSize)
-        × Below 15728640 (now mothers) ⌝ }
+        × AtMost 15728640 (now mothers) ⌝ }
     ensures { λ r. ⌜ Raised (λ c. matching c (record { b = b; s = s; runs = decode (now (part .entry)) })) base n (now (mothers .entry)) (now (mothers .exit)) ⌝ }
 {
     let size = part.len();
@@ -114,6 +114,7 @@ fn tally_table(part: &[u32], b: u32, s: u32, base: u32, n: usize, mothers: &mut 
     let mut k = first.carry;
     let mut i: usize = 0;
     while i < n {
+        // A run is read for two payloads, which here are the same.
         let run = sound::read_run(part, a, k, p, p);
         mothers[i] = mothers[i] + run.voids;
         k = onward(k, run.len);
@@ -135,7 +136,7 @@ fn tally_mothers(
     mothers: &mut [u32],
 )
     requires { ⌜ T (directoryRight 20 places) × (wordsTaken (placesInUse places) ≤ length (now annex)) × T (annexRight (placesInUse places) (now annex))
-        × (base ≤ 1048576) × (n ≤ blockSize) × (length (now mothers) ≡ blockSize) × Below 0 (now mothers) ⌝ }
+        × (base ≤ 1048576) × (n ≤ blockSize) × (length (now mothers) ≡ blockSize) × AtMost 0 (now mothers) ⌝ }
     ensures { λ r. ⌜ Stored base n (tables (placesInUse places) (now (annex .entry))) (now (mothers .exit)) ⌝ }
 {
     let mut at: usize = 0;
