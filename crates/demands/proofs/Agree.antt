@@ -8,14 +8,28 @@ use Rattle.rules.specs.Record.{Filter}
 use Rattle.rules.specs.Calls.{Outcome}
 use Rattle.rules.specs.Quick.{query, queryNumber, insertNumber}
 use Rattle.rules.specs.Slow.{audit}
-use Rattle.filter.specs.Contracts.{Quick}
-use Rattle.demands.specs.Results.{Starts, Inserts, Deletes, Rejuvenates, Settles, Doubles}
+use Rattle.rules.specs.Lookups.{part, queryBytes}
+use Rattle.filter.specs.Contracts.{Quick, Leaves}
+use Rattle.filter.specs.Restart.{restart}
+use Rattle.demands.specs.Results.{Of, Starts, Inserts, Deletes, Rejuvenates, Settles, Doubles}
 use Rattle.demands.proofs.Demand2.{insert-by-rule, delete-by-rule, rejuvenate-by-rule, settle-by-rule, double-by-rule, start-by-rule, same}
 
 pub start-agrees : (power f regime : ℕ) (main queue annex : List ℕ) (o p : Outcome) → Starts power f regime main queue annex o → Starts power f regime main queue annex p → o ≡ p
 start-agrees power f regime main queue annex o p x y = start-by-rule power f regime main queue annex o x ∙ sym (start-by-rule power f regime main queue annex p y)
 
+-- the exported Query, on any bytes
+pub bytes-agrees : (k w : ℕ) (bytes : List ℕ) (h a b : ℕ) → a ≡ queryBytes k w bytes h → b ≡ queryBytes k w bytes h → a ≡ b
+bytes-agrees k w bytes h a b x y = x ∙ sym y
+
+-- the words of the annex table of length b, which the part lookup returns
+pub part-agrees : (r : Filter) (annex : List ℕ) (b : ℕ) (ws us : List ℕ) → ws ≡ part r annex b → us ≡ part r annex b → ws ≡ us
+part-agrees r annex b ws us x y = x ∙ sym y
+
 module _ (r : Filter) (main queue annex : List ℕ) where
+  -- Start over a lent record
+  pub restart-agrees : (power f regime : ℕ) (o p : Outcome) → Of (Leaves (restart r power f regime main queue annex)) o → Of (Leaves (restart r power f regime main queue annex)) p → o ≡ p
+  restart-agrees power f regime o p x y = same o _ x ∙ sym (same p _ y)
+
   pub query-agrees : (h a b : ℕ) → a ≡ query r main queue annex h → b ≡ query r main queue annex h → a ≡ b
   query-agrees h a b x y = x ∙ sym y
 

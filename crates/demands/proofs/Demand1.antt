@@ -1,17 +1,21 @@
 -- DEMAND 1. "Every call ends and stays inside the memory lent to it, for all input." Both are part of what the language proves of every function. Here: "Bad numbers,
 -- lengths and requests are refused by a listed number, and a refused call changes no memory. Where numbers and lengths are good but the audit finds the memory
 -- unsound, the four quick calls may answer as they like but write only their own table and queue; the slow calls refuse it."
-use mathlib.Core.Path.{_≡_, refl, _∙_}
-use mathlib.Core.Bool.{Bool, true, false}
+use mathlib.Core.Path.{_≡_, refl, sym, _∙_}
+use mathlib.Core.Bool.{Bool, true, false, not, _&&_}
 use mathlib.Core.List.{List}
-use Prim.Native.Nat.{ℕ, zero, suc}
+use Prim.Native.Nat.{ℕ, zero, suc, _+_, _^_}
+use lib.Dec.{eqb}
 use lib.ListN.{length}
+use borrow.Author.Tests.{eq-eqb, ne-eqb}
+use Rattle.lists.proofs.Tests.{no-true, test-true}
 use Rattle.rules.specs.Record.{Filter, change, allZero}
 use Rattle.rules.specs.Refusals.{Test, refusal, recordRight, slicesRight}
 use Rattle.rules.specs.Sound.{sound}
 use Rattle.rules.specs.Calls.{Outcome, give, refused, asked, startNumber, start}
 use Rattle.rules.specs.Quick.{queryNumber, insertNumber, takeNumber}
 use Rattle.rules.specs.Slow.{audit, settle, double, doubleNumber}
+use Rattle.keeps.proofs.Refusals.{refusal-zero}
 use Rattle.keeps.proofs.Refused.{settle-refused, double-refused, second-refused}
 use Rattle.filter.specs.Contracts.{Quick}
 use Rattle.demands.specs.Results.{Starts, Inserts, Deletes, Rejuvenates, Settles, Doubles, Nothing}
@@ -96,11 +100,38 @@ module _ (r : Filter) (main queue annex : List ℕ) where
   unfolding queryNumber insertNumber takeNumber audit
   bad-lengths e f h = (asked-3 _ e f, asked-3 _ e f, asked-3 _ e f, asked-3 _ e f)
 
+  -- Double asks 9 between them, and 3 of its second main too
+  pub double-at-20 : recordRight r ≡ true → r .k ≡ 20 → (second : ℕ) → doubleNumber r main queue annex second ≡ 9
+  unfolding doubleNumber refusal
+  double-at-20 e t second = rw (e, eq-eqb (r .k) 20 t, refusal)
+
+  pub double-bad-lengths : recordRight r ≡ true → (r .k ≡ 20 → ⊥) → (second : ℕ)
+      → (slicesRight r (length main) (length queue) (length annex) && eqb second (2 ^ (r .k + 1))) ≡ false → doubleNumber r main queue annex second ≡ 3
+  unfolding doubleNumber refusal
+  double-bad-lengths e t second f = rw (e, ne-eqb (r .k) 20 t, f, refusal)
+
   -- "the slow calls refuse it": 4
   pub unsound-refused : recordRight r ≡ true → slicesRight r (length main) (length queue) (length annex) ≡ true → sound r main queue annex ≡ false
       → (audit r main queue annex ≡ 4) × (settle r main queue annex .number ≡ 4)
   unfolding audit asked refusal settle give refused
   unsound-refused e f s = (rw (e, f, s, refusal), rw (e, f, s, refusal, give))
+
+  pub double-unsound : recordRight r ≡ true → (r .k ≡ 20 → ⊥) → slicesRight r (length main) (length queue) (length annex) ≡ true → (second : ℕ) → second ≡ 2 ^ (r .k + 1)
+      → sound r main queue annex ≡ false → (doubleNumber r main queue annex second ≡ 4) × (double r main queue annex second .number ≡ 4)
+  unfolding doubleNumber refusal double give refused
+  double-unsound e t f second g s =
+      let l = eq-eqb second (2 ^ (r .k + 1)) g in
+      (rw (e, ne-eqb (r .k) 20 t, f, l, s, refusal), rw (e, ne-eqb (r .k) 20 t, f, l, s, refusal, give))
+
+  -- whatever the record, the lengths and the second main: by one number or another Double is refused
+  pub double-unsound-refused : sound r main queue annex ≡ false → (second : ℕ) → doubleNumber r main queue annex second ≡ 0 → ⊥
+  unfolding doubleNumber
+  double-unsound-refused s second z =
+      let a = refusal-zero (recordRight r) 1 _ z in
+      let b = refusal-zero (not (eqb (r .k) 20)) 8 _ (a .1) in
+      let c = refusal-zero (slicesRight r (length main) (length queue) (length annex) && eqb second (2 ^ (r .k + 1))) 2 _ (b .1) in
+      let d = refusal-zero (sound r main queue annex) 3 _ (c .1) in
+      no-true (sym s ∙ test-true (sound r main queue annex) (d .0))
 
   -- "the four quick calls .. write only their own table and queue": on any memory annex and settings stay (Query's contract says that it writes nothing)
   pub quick-writes : (p : Outcome) (first : ℕ) (s : Bool) (o : Outcome) → Quick p first s r main queue annex (o .number) (o .rec) (o .main) (o .queue) (o .annex)

@@ -1,16 +1,22 @@
 -- DEMAND 2. "On memory that the audit accepts, the slot words, queue, annex and record after each call, and its answer, are those of the paper's rules as document 01
 -- fixes them. Decoding the table and laying it out again gives the same words." Each contract gives the first sentence, and keeping soundness the second.
-use mathlib.Core.Path.{_≡_, sym}
-use mathlib.Core.List.{List}
-use Prim.Native.Nat.{ℕ}
+use mathlib.Core.Path.{_≡_, sym, ap}
+use mathlib.Core.List.{List, []}
+use Prim.Native.Nat.{ℕ, _*_, _^_}
 use lib.ListN.{length}
+use borrow.Author.Tests.{eq-eqb, le-leb}
 use Rattle.layout.specs.Machine.{layout}
 use Rattle.layout.specs.Decode.{decode}
-use Rattle.rules.specs.Record.{Filter}
+use Rattle.layout.specs.Bytes.{wordsOf}
+use Rattle.rules.specs.Record.{Filter, width}
+use Rattle.rules.specs.Refusals.{refusal}
 use Rattle.rules.specs.Calls.{Outcome, start}
-use Rattle.rules.specs.Quick.{insert, delete, rejuvenate}
+use Rattle.rules.specs.Quick.{matchesIn, queryNumber, query, insert, delete, rejuvenate}
 use Rattle.rules.specs.Slow.{audit, settle, double, secondMain}
+use Rattle.rules.specs.Lookups.{bytesNumber, answerIn, queryBytes}
 use Rattle.keeps.proofs.State.{fine}
+use Rattle.keeps.proofs.Bounds.{bounds}
+use Rattle.keeps.proofs.Refusals.{asked-zero}
 use Rattle.keeps.proofs.Audits.{audit-good, good-audit}
 use Rattle.keeps.proofs.Done.{insert-good, delete-good, rejuvenate-good}
 use Rattle.keeps.proofs.Settle.{settle-good}
@@ -46,6 +52,21 @@ module _ (r : Filter) (main queue annex : List ℕ) where
 
 pub start-by-rule : (power f regime : ℕ) (main queue annex : List ℕ) (o : Outcome) → Starts power f regime main queue annex o → o ≡ start power f regime main queue annex
 start-by-rule power f regime main queue annex o l = same o _ l
+
+-- ---- "asks Query with k, W and those bytes through an exported function that also takes the hash; the answer is the same"
+
+-- a record that Query accepts has k and W in the range that the exported Query asks for
+bytes-accepted : (r : Filter) (main queue annex bytes : List ℕ) → queryNumber r main queue annex ≡ 0 → length bytes ≡ 4 * 2 ^ r .k → bytesNumber (r .k) (width r) (length bytes) ≡ 0
+unfolding queryNumber bytesNumber refusal
+bytes-accepted r main queue annex bytes z l =
+    let b = bounds r (asked-zero r main queue annex [] z .0) in
+    rw (le-leb 3 (r .k) (b .k-3), le-leb (r .k) 20 (b .k-20), le-leb 4 (width r) (b .width-4), le-leb (width r) 26 (b .width-26), eq-eqb (length bytes) (4 * 2 ^ r .k) l, refusal)
+
+pub bytes-same : (r : Filter) (main queue annex bytes : List ℕ) → queryNumber r main queue annex ≡ 0 → length bytes ≡ 4 * 2 ^ r .k → wordsOf bytes ≡ main
+    → (h : ℕ) → queryBytes (r .k) (width r) bytes h ≡ query r main queue annex h
+unfolding queryBytes answerIn query matchesIn
+bytes-same r main queue annex bytes z l e h =
+    rw (bytes-accepted r main queue annex bytes z l, z, queryBytes, query) (ap (λ (words : List ℕ). answerIn (r .k) (width r) words h) e)
 
 -- ---- "Decoding the table and laying it out again gives the same words."
 
