@@ -9,9 +9,8 @@ use Rattle.rules.specs.Calls.{Outcome}
 use Rattle.rules.specs.Quick.{query, queryNumber, insertNumber}
 use Rattle.rules.specs.Slow.{audit}
 use Rattle.rules.specs.Lookups.{part, queryBytes}
-use Rattle.filter.specs.Contracts.{Quick, Leaves}
-use Rattle.filter.specs.Restart.{restart}
-use Rattle.demands.specs.Results.{Of, Starts, Inserts, Deletes, Rejuvenates, Settles, Doubles}
+use Rattle.filter.specs.Contracts.{Quick}
+use Rattle.demands.specs.Results.{Starts, Restarts, Inserts, Deletes, Rejuvenates, Audits, Settles, Doubles}
 use Rattle.demands.proofs.Demand2.{insert-by-rule, delete-by-rule, rejuvenate-by-rule, settle-by-rule, double-by-rule, start-by-rule, same}
 
 pub start-agrees : (power f regime : ℕ) (main queue annex : List ℕ) (o p : Outcome) → Starts power f regime main queue annex o → Starts power f regime main queue annex p → o ≡ p
@@ -26,8 +25,7 @@ pub part-agrees : (r : Filter) (annex : List ℕ) (b : ℕ) (ws us : List ℕ) �
 part-agrees r annex b ws us x y = x ∙ sym y
 
 module _ (r : Filter) (main queue annex : List ℕ) where
-  -- Start over a lent record
-  pub restart-agrees : (power f regime : ℕ) (o p : Outcome) → Of (Leaves (restart r power f regime main queue annex)) o → Of (Leaves (restart r power f regime main queue annex)) p → o ≡ p
+  pub restart-agrees : (power f regime : ℕ) (o p : Outcome) → Restarts r main queue annex power f regime o → Restarts r main queue annex power f regime p → o ≡ p
   restart-agrees power f regime o p x y = same o _ x ∙ sym (same p _ y)
 
   pub query-agrees : (h a b : ℕ) → a ≡ query r main queue annex h → b ≡ query r main queue annex h → a ≡ b
@@ -57,6 +55,10 @@ module _ (r : Filter) (main queue annex : List ℕ) where
   rejuvenate-refusals-agree n e h o p = decided _ _ _ n e o p
 
   -- the slow calls, on any memory
+  -- Audit by its number alone, and with the record and the words that it leaves
+  pub audited-agrees : (o p : Outcome) → Audits r main queue annex o → Audits r main queue annex p → o ≡ p
+  audited-agrees o p x y = same o _ x ∙ sym (same p _ y)
+
   pub audit-agrees : (a b : ℕ) → a ≡ audit r main queue annex → b ≡ audit r main queue annex → a ≡ b
   audit-agrees a b x y = x ∙ sym y
 

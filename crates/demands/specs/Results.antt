@@ -5,6 +5,7 @@ use Prim.Native.Nat.{ℕ}
 use Rattle.rules.specs.Record.{Filter}
 use Rattle.rules.specs.Calls.{Outcome}
 use Rattle.filter.specs.Contracts as contract
+use Rattle.filter.specs.Restart.{restart}
 
 abbrev pub Of : (ℕ → Filter → List ℕ → List ℕ → List ℕ → Type 0) → Outcome → Type 0
 Of promise o = promise (o .number) (o .rec) (o .main) (o .queue) (o .annex)
@@ -13,6 +14,10 @@ abbrev pub Starts : ℕ → ℕ → ℕ → List ℕ → List ℕ → List ℕ �
 Starts power f regime main queue annex = Of (contract.Starts power f regime main queue annex)
 
 module _ (r : Filter) (main queue annex : List ℕ) where
+  -- Start over a lent record
+  abbrev pub Restarts : ℕ → ℕ → ℕ → Outcome → Type 0
+  Restarts power f regime = Of (contract.Leaves (restart r power f regime main queue annex))
+
   abbrev pub Inserts : ℕ → Outcome → Type 0
   Inserts h = Of (contract.Inserts r main queue annex h)
 
@@ -21,6 +26,9 @@ module _ (r : Filter) (main queue annex : List ℕ) where
 
   abbrev pub Rejuvenates : ℕ → Outcome → Type 0
   Rejuvenates h = Of (contract.Rejuvenates r main queue annex h)
+
+  abbrev pub Audits : Outcome → Type 0
+  Audits = Of (contract.Audits r main queue annex)
 
   abbrev pub Settles : Outcome → Type 0
   Settles = Of (contract.Settles r main queue annex)
