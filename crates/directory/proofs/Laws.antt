@@ -15,7 +15,7 @@ use Rattle.lists.proofs.Alls.{All, all-get, all-map, every-all}
 use Rattle.lists.proofs.Sums.{sum-append}
 use Rattle.slots.specs.Numbers.{limit}
 use Rattle.directory.specs.declared.Place.{Place}
-use Rattle.directory.specs.Places.{noPlace, taken, placesInUse, placesNotInUse, placesRight, zeroPlace, directoryRight, wordsTaken, partIn, keep, trim, fifteen}
+use Rattle.directory.specs.Places.{noPlace, taken, placesInUse, placesNotInUse, placesRight, zeroPlace, directoryRight, wordsTaken, partIn, offsetIn, keep, trim, fifteen}
 use Rattle.directory.specs.Lookup.{other}
 use Rattle.directory.proofs.Front.{front-behind, front-length, front-all, front-append, behind-append, front-set, behind-set}
 
@@ -244,6 +244,10 @@ part-next : (b : ℕ) (p : Place) (ps : List Place) (ws : List ℕ) → T (other
 unfolding partIn
 part-next b p ps ws t = rw (not-test (eqb b (p .b)) t, partIn)
 
+offset-next : (b : ℕ) (p : Place) (ps : List Place) → T (other b p) → offsetIn b (p ∷ ps) ≡ 2 ^ p .s + offsetIn b ps
+unfolding offsetIn
+offset-next b p ps t = rw (not-test (eqb b (p .b)) t, offsetIn)
+
 -- no table of length b
 pub part-none : (b : ℕ) (ps : List Place) (ws : List ℕ) → T (every (other b) ps) → partIn b ps ws ≡ []
 unfolding every
@@ -265,6 +269,20 @@ part-at b (p ∷ ps) (suc i) ws h t e =
     ∙ part-at b ps i (drop (2 ^ p .s) ws) (omega arith) (and-right (other b p) (every (other b) (take i ps)) t) e
     ∙ ap (take (2 ^ getD ps i noPlace .s))
     (drop-drop (wordsTaken (take i ps)) (2 ^ p .s) ws ∙ ap (λ (n : ℕ). drop n ws) (sym (words-cons p (take i ps))))
+
+-- the words before it are those of the tables before it
+pub offset-at : (b : ℕ) (ps : List Place) (i : ℕ) → i < length ps → T (every (other b) (take i ps)) → b ≡ getD ps i noPlace .b
+    → wordsTaken (take i ps) ≡ offsetIn b ps
+unfolding every
+offset-at b [] i h t e = absurd (omega arith)
+offset-at b (p ∷ ps) zero h t e = words-none ∙ sym here
+  where
+    here : offsetIn b (p ∷ ps) ≡ 0
+    here = unfold offsetIn in ap (λ (t : Bool). elim t [ true ↦ 0 | false ↦ 2 ^ p .s + offsetIn b ps ]) (eq-eqb b (p .b) e)
+offset-at b (p ∷ ps) (suc i) h t e =
+    words-cons p (take i ps)
+    ∙ ap (λ (n : ℕ). 2 ^ p .s + n) (offset-at b ps i (omega arith) (and-right (other b p) (every (other b) (take i ps)) t) e)
+    ∙ sym (offset-next b p ps (and-left (other b p) (every (other b) (take i ps)) t))
 
 -- ---- empty tables at the end
 

@@ -14,10 +14,10 @@ use Rattle.lists.specs.Lists.{within, every, front, behind}
 use Rattle.lists.proofs.Tests.{true-test, test-true, and-left}
 use Rattle.slots.specs.Numbers.{limit}
 use Rattle.directory.specs.declared.Place.{Place}
-use Rattle.directory.specs.Places.{noPlace, taken, placesInUse, placesNotInUse, placesRight, zeroPlace, directoryRight, wordsTaken, partIn, trim, fifteen}
+use Rattle.directory.specs.Places.{noPlace, taken, placesInUse, placesNotInUse, placesRight, zeroPlace, directoryRight, wordsTaken, partIn, offsetIn, trim, fifteen}
 use Rattle.directory.specs.Lookup.{PlaceOf, other}
 use Rattle.directory.proofs.Front.{front-yes, front-no, behind-yes, behind-no, front-length, front-get, front-take, every-more}
-use Rattle.directory.proofs.Laws.{right-first, fifteen-in-use, fifteen-add, fifteen-drop, fifteen-last, words-append, words-cons, words-none, words-inside, part-none, part-at, trim-empty, trim-full}
+use Rattle.directory.proofs.Laws.{right-first, fifteen-in-use, fifteen-add, fifteen-drop, fifteen-last, words-append, words-cons, words-none, words-inside, part-none, part-at, offset-at, trim-empty, trim-full}
 
 step : (ps : List Place) → length ps ≡ 15 → (i : ℕ) → i < 15 → drop i ps ≡ getD ps i noPlace ∷ drop (i + 1) ps
 step ps l i h = let k : i < length ps = omega arith in rw (add-one, drop-cons ps i noPlace)
@@ -317,6 +317,9 @@ module _ (b : ℕ) (ps : List Place) (i : ℕ) (w : PlaceOf b (placesInUse ps) i
         ap (λ (n : ℕ). take n (drop at ws)) e
         ∙ ap (λ (n : ℕ). take (2 ^ getD (placesInUse ps) i noPlace .s) (drop n ws)) ea
         ∙ sym (part-at b (placesInUse ps) i ws (w .inside h) (w .others) (w .found h))
+
+    pub part-lies : (n o : ℕ) → 0 < n → at * 4 + o ≡ o + 4 * offsetIn b (placesInUse ps)
+    part-lies n o _ = omega (arith, offset-at b (placesInUse ps) i (w .inside h) (w .others) (w .found h))
 
 -- ---- one table more
 

@@ -44,6 +44,11 @@ unfoldable pub partIn : ℕ → List Place → List ℕ → List ℕ
 partIn b [] annex = []
 partIn b (p ∷ ps) annex = elim (eqb b (p .b)) [ true ↦ take (2 ^ p .s) annex | false ↦ partIn b ps (drop (2 ^ p .s) annex) ]
 
+-- the words before the table of length b
+unfoldable pub offsetIn : ℕ → List Place → ℕ
+offsetIn b [] = 0
+offsetIn b (p ∷ ps) = elim (eqb b (p .b)) [ true ↦ 0 | false ↦ 2 ^ p .s + offsetIn b ps ]
+
 -- "empty tables at the end of the directory are dropped"
 unfoldable pub keep : Place → List Place → List Place
 keep p [] = elim (eqb (p .count) 0) [ true ↦ [] | false ↦ p ∷ [] ]

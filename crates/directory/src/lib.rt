@@ -5,7 +5,7 @@ ghost use Prim.Native.Nat.{ℕ, _+_, _*_, _≤_, _<_, _^_};
 ghost use lib.Dec.{T};
 ghost use lib.ListN.{length, getD, take, drop, set};
 ghost use Rattle.lists.specs.Lists.{every};
-ghost use Rattle.directory.specs.Places.{noPlace, placesInUse, placesNotInUse, placesRight, zeroPlace, directoryRight, wordsTaken, partIn, trim, fifteen};
+ghost use Rattle.directory.specs.Places.{noPlace, placesInUse, placesNotInUse, placesRight, zeroPlace, directoryRight, wordsTaken, partIn, offsetIn, trim, fifteen};
 ghost use Rattle.directory.specs.Lookup.{PlaceOf};
 
 #[repr(C)]
@@ -139,11 +139,12 @@ pub fn place_of(places: [Place; 15], b: u32) -> usize
     15
 }
 
-// The words of the table of length b, a part of the annex itself; an empty part if there is no such table.
+// The words of the table of length b, a part of the annex itself; an empty part if there is no such table. An offset counts bytes, four to a word.
 pub fn part<'a>(annex: &'a [u32], places: [Place; 15], b: u32) -> &'a [u32]
     requires { ⌜ (wordsTaken (placesInUse places) ≤ length (now annex)) × ((j : ℕ) → getD places j noPlace .s ≤ 20) ⌝ }
     ensures words { λ r. ⌜ now r ≡ partIn b (placesInUse places) (now (annex .entry)) ⌝ }
     ensures itself { λ r. ⌜ r .ptr .0 ≡ annex .entry .ptr .0 ⌝ }
+    ensures there { λ r. ⌜ (0 < length (now r) → r .ptr .1 ≡ annex .entry .ptr .1 + 4 * offsetIn b (placesInUse places)) ⌝ }
 {
     let i = place_of(places, b);
     if 15 <= i {

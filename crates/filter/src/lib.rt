@@ -1,10 +1,10 @@
 // The record of a filter, by value, and its calls.
 ghost use mathlib.Core.Path.{_≡_};
-ghost use Prim.Native.Nat.{_+_, _≤_, _<_};
+ghost use Prim.Native.Nat.{_+_, _*_, _≤_, _<_};
 ghost use lib.Dec.{T};
 ghost use lib.ListN.{length, replicate};
-ghost use Rattle.directory.specs.Places.{noPlace};
-ghost use Rattle.rules.specs.Record.{fresh, width, widthAt, annexUsed, allZero};
+ghost use Rattle.directory.specs.Places.{noPlace, offsetIn};
+ghost use Rattle.rules.specs.Record.{fresh, width, widthAt, inUse, annexUsed, allZero};
 ghost use Rattle.rules.specs.Refusals.{settingsRight, recordRight, slicesRight};
 ghost use Rattle.rules.specs.Quick.{query};
 ghost use Rattle.rules.specs.Slow.{audit};
@@ -533,10 +533,11 @@ impl Record {
         }
     }
 
-    // The words of the annex table of length b, a part of the annex itself, or an empty part.
+    // The words of the annex table of length b, a part of the annex itself, or an empty part. An offset counts bytes, four to a word.
     pub fn part<'a>(self, annex: &'a [u32], b: u32) -> &'a [u32]
         ensures words { λ r. ⌜ now r ≡ part (plain self) (now (annex .entry)) b ⌝ }
         ensures itself { λ r. ⌜ r .ptr .0 ≡ annex .entry .ptr .0 ⌝ }
+        ensures there { λ r. ⌜ (0 < length (now r) → r .ptr .1 ≡ annex .entry .ptr .1 + 4 * offsetIn b (inUse (plain self))) ⌝ }
     {
         let read = self.in_range();
         if read.right {

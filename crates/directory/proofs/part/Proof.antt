@@ -1,7 +1,7 @@
 -- `part` meets its contract: the words of the tables before place i are skipped, and that of place i ends within the words of all tables.
 use native.Mathlib.Omega.{arith}
 use borrow.Author.Needs.{needs}
-use Rattle.directory.proofs.Loops.{place-low, part-nothing, part-ends, part-found}
+use Rattle.directory.proofs.Loops.{place-low, part-nothing, part-ends, part-found, part-lies}
 use Rattle.directory.proofs.part.Statement.{statement}
 use Rattle.directory.proofs.part.Tie as tie
 
@@ -48,7 +48,7 @@ part-result-end-2 : tie.Need-part-result-end-2
 part-result-end-2 c = search (needs, part-ends)
 
 returns-2 : tie.Need-returns-2
-returns-2 c = search (needs, part-found)
+returns-2 c = search (needs, part-found, part-lies)
 
 pub part-spec : {M : Type 1} → statement M
 part-spec =

@@ -38,7 +38,7 @@ part-result-end : tie.Need-part-result-end
 part-result-end c = search needs
 
 returns-2 : tie.Need-returns-2
-returns-2 c = (part-short (plain (c .before .before .before .before .before .before .before .before .args .self)) _ _ (sym (c .before .before .before .before .before .before .in-range .ensures .0) ∙ c .before .before .before .before .before .if1 .taken) (omega (arith, c .before .if2 .left, words-all _ _ _ (c .before .before .before .places-in-use .ensures .0) (c .before .before .words-taken .ensures .0))), refl)
+returns-2 c = (part-short (plain (c .before .before .before .before .before .before .before .before .args .self)) _ _ (sym (c .before .before .before .before .before .before .in-range .ensures .0) ∙ c .before .before .before .before .before .if1 .taken) (omega (arith, c .before .if2 .left, words-all _ _ _ (c .before .before .before .places-in-use .ensures .0) (c .before .before .words-taken .ensures .0))), (refl, λ h. absurd (omega arith)))
 
 sub-result-2 : tie.Need-sub-result-2
 sub-result-2 c = search needs
@@ -50,7 +50,7 @@ part-result-end-2 : tie.Need-part-result-end-2
 part-result-end-2 c = search needs
 
 returns-3 : tie.Need-returns-3
-returns-3 c = (part-none (plain (c .before .before .before .before .args .self)) _ _ (sym (c .before .before .in-range .ensures .0) ∙ c .before .if1 .left), refl)
+returns-3 c = (part-none (plain (c .before .before .before .before .args .self)) _ _ (sym (c .before .before .in-range .ensures .0) ∙ c .before .if1 .left), (refl, λ h. absurd (omega arith)))
 
 pub part-spec : {M : Type 1} → statement M
 part-spec =
