@@ -20,7 +20,7 @@ const LEAST: u32 = 3;
 const FIRST: u32 = 12;
 const LAST: u32 = 20;
 const DOUBLINGS: u32 = 10;
-const ROUNDS: usize = 9;
+const ROUNDS: usize = 15;
 
 /// An odd number: its multiples visit every address once, far from one another.
 const STRIDE: u64 = 0x9e37_79b9_7f4a_7c15;
