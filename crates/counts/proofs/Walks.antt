@@ -19,7 +19,7 @@ use Rattle.layout.specs.Moves.{wrap}
 use Rattle.layout.proofs.Same.{carry-next}
 use Rattle.rules.specs.Tables.{hashEntry, matching}
 use Rattle.sound.specs.Reading.{Laid, Read, readAt}
-use Rattle.counts.specs.Tally.{blockSize, Raised, AtMost}
+use Rattle.counts.specs.Tally.{Raised, AtMost}
 use Rattle.counts.proofs.Stored.{count-le}
 use Rattle.counts.proofs.Blocks.{same-size, small, carry-is, carry-small, read-is}
 

@@ -1,6 +1,6 @@
 -- Document 01, "Numbers": "The annex directory is a fixed array of fifteen entries, each a mother-hash length b, a size power s and a count; places in use come
 -- first and the rest are all zero."
-use Prim.Native.Nat.{ℕ, zero, suc, _+_, _-_, _^_}
+use Prim.Native.Nat.{ℕ, _+_, _-_, _^_}
 use mathlib.Core.Bool.{Bool, true, false, not, _&&_}
 use mathlib.Core.List.{List, [], _∷_, _++_}
 use lib.ListN.{length, take, drop, replicate}

@@ -3,7 +3,7 @@ ghost use mathlib.Core.Path.{_≡_};
 ghost use mathlib.Core.List.{_∷_, [], _++_};
 ghost use Prim.Native.Nat.{ℕ, _+_, _*_, _≤_, _<_, _^_};
 ghost use lib.Dec.{T};
-ghost use lib.ListN.{length, getD, take, drop, set};
+ghost use lib.ListN.{length, getD, take, set};
 ghost use Rattle.lists.specs.Lists.{every};
 ghost use Rattle.directory.specs.Places.{noPlace, placesInUse, placesNotInUse, placesRight, zeroPlace, directoryRight, wordsTaken, partIn, offsetIn, trim, fifteen};
 ghost use Rattle.directory.specs.Lookup.{PlaceOf};

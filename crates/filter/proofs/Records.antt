@@ -4,7 +4,6 @@ use mathlib.Core.Bool.{Bool, true, false, _&&_}
 use Prim.Native.Nat.{ℕ, _+_, _-_, _≤_, _^_}
 use native.Mathlib.Omega.{arith}
 use lib.Dec.{T, leb}
-use lib.ListN.{length}
 use Rattle.lists.specs.Lists.{within}
 use Rattle.lists.proofs.Tests.{and-left, and-right, true-test}
 use Rattle.slots.specs.Numbers.{limit, extra}

@@ -1,17 +1,16 @@
 -- What a call does to a table, by address and words: one run of the circle changes.
-use mathlib.Core.Path.{_≡_, refl, sym, ap, ap₂, _∙_, subst}
-use mathlib.Core.List.{List, [], _∷_, _++_, append-assoc}
-use Prim.Native.Nat.{ℕ, zero, suc, _+_, _-_, _≤_, _<_}
+use mathlib.Core.Path.{_≡_, sym, ap, ap₂, _∙_}
+use mathlib.Core.List.{List, [], _∷_, _++_}
+use Prim.Native.Nat.{ℕ, suc, _+_, _-_, _<_}
 use native.Mathlib.Omega.{arith}
 use lib.ListN.{length, take, drop, getD, set, length-append, length-set}
-use lib.Seq.{set-split, drop-cons, split-at, drop-at, take-at, length-take-le}
+use lib.Seq.{set-split, drop-cons, drop-at, take-at, length-take-le}
 use Rattle.layout.specs.Machine.{occupied, left, pend, layout}
 use Rattle.lists.specs.Runs.{total}
-use Rattle.layout.proofs.Laws.{total-append}
 use Rattle.layout.specs.Decode.{turn}
 use Rattle.layout.proofs.Round.{turn-layout}
 use Rattle.layout.proofs.Same.{carry-pend, turn-length, total-turn}
-use Rattle.layout.specs.Document.{carry, table}
+use Rattle.layout.specs.Document.{carry}
 use Rattle.layout.proofs.Insert.{pend-others}
 use Rattle.layout.proofs.InsertLaw.{insert-law}
 use Rattle.layout.proofs.RemoveLaw.{remove-law}

@@ -1,11 +1,10 @@
 -- How a circle doubles: each run c gives one at c and one at c + N. Where nothing waits in the old circle, nothing waits at either place of the new one.
-use mathlib.Core.Path.{_≡_, refl, sym, ap, ap₂, _∙_, subst}
-use mathlib.Core.List.{List, [], _∷_, _++_, map, append-assoc, append-nil}
-use Prim.Native.Nat.{ℕ, zero, suc, _+_, _*_, _-_, _≤_, _<_}
+use mathlib.Core.Path.{_≡_, ap, _∙_}
+use mathlib.Core.List.{List, [], _∷_, _++_, map}
+use Prim.Native.Nat.{ℕ, _+_, _-_, _≤_}
 use native.Mathlib.Omega.{arith}
-use lib.ListN.{length, take, drop, length-append, length-map}
+use lib.ListN.{length}
 use Rattle.layout.specs.Machine.{Entry, rest, scan, left, pend, layout}
-use Rattle.lists.specs.Runs.{total}
 use Rattle.layout.proofs.Laws.{rest-length, left-append, scan-append, empty}
 
 -- runs with fewer entries leave fewer waiting

@@ -1,16 +1,15 @@
 -- How a layout changes when a run gains an entry: the entry in hand is swapped with each slot up to the first empty one.
-use mathlib.Core.Path.{_≡_, refl, sym, ap, ap₂, _∙_, subst}
+use mathlib.Core.Path.{_≡_, refl, sym, ap, ap₂, _∙_}
 use mathlib.Core.Logic.{_⊎_, inl, inr}
-use mathlib.Core.List.{List, [], _∷_, _++_, map, append-assoc, append-nil}
-use Prim.Native.Nat.{ℕ, zero, suc, _+_, _*_, _-_, _/_, _%_, _≤_, _<_}
+use mathlib.Core.List.{List, [], _∷_, _++_, map, append-assoc}
+use Prim.Native.Nat.{ℕ, zero, suc, _+_, _*_, _-_, _%_, _≤_, _<_}
 use native.Mathlib.Omega.{arith}
-use lib.ListN.{length, take, drop, getD, length-append, length-map, take-append-drop}
+use lib.ListN.{length, take, drop, length-append, length-map, take-append-drop}
 use lib.Seq.{take-at, drop-at, length-take-le}
 use Rattle.layout.specs.Machine.{Entry, start, more, code, occupied, mark, emit, rest, scan, left, pend, layout}
 use Rattle.lists.specs.Runs.{total}
-use Rattle.layout.proofs.Laws.{mark-length, rest-length, scan-length, left-append, scan-append, Gap, lap, forget, total-append}
+use Rattle.layout.proofs.Laws.{scan-length, scan-append, Gap, lap, forget}
 use Rattle.layout.specs.Decode.{entry}
-use Rattle.layout.proofs.Same.{room}
 use Rattle.layout.proofs.Round.{marks, drained, entry-moved, entry-home, occupied-bit}
 use Rattle.layout.specs.Moves.{ifEmpty, push}
 

@@ -1,17 +1,15 @@
 -- The words of a circle begun at an address, when the address's run gains x behind us: in place, k slots on.
 use mathlib.Core.Path.{_≡_, refl, sym, ap, ap₂, _∙_, subst}
-use mathlib.Core.List.{List, [], _∷_, _++_, map, append-assoc, append-nil}
-use Prim.Native.Nat.{ℕ, zero, suc, _+_, _*_, _-_, _/_, _%_, _≤_, _<_}
+use mathlib.Core.List.{List, [], _∷_, _++_, map}
+use Prim.Native.Nat.{ℕ, suc, _+_, _*_, _-_, _/_, _%_, _≤_, _<_}
 use native.Mathlib.Omega.{arith}
-use lib.ListN.{length, take, drop, getD, length-append, length-map}
-use Rattle.layout.specs.Machine.{Entry, start, more, code, occupied, mark, emit, rest, scan, left, pend, layout}
+use lib.ListN.{length, take, drop, length-append}
+use Rattle.layout.specs.Machine.{Entry, start, more, code, occupied, mark, emit, rest, scan, left, layout}
 use Rattle.lists.specs.Runs.{total}
-use Rattle.layout.proofs.Laws.{mark-length, total-append}
-use Rattle.layout.specs.Decode.{entry}
 use Rattle.layout.proofs.Round.{marks}
 use Rattle.layout.proofs.Same.{room}
 use Rattle.layout.proofs.Insert.{pend-others, layout-from, over, insert-first, insert-head, insert-later, insert-new, insert-before, splice-drop, used}
-use Rattle.layout.specs.Moves.{ifEmpty, insertAt, push, slide}
+use Rattle.layout.specs.Moves.{insertAt, push, slide}
 
 occupied-le : (r : List ℕ) → occupied r ≤ 1
 occupied-le [] = omega arith

@@ -1,11 +1,11 @@
 -- Laws of the machine: lengths, laps, and the turn of the circle.
 use mathlib.Core.Path.{_≡_, refl, sym, ap, _∙_}
 use mathlib.Core.Logic.{_⊎_, inl, inr}
-use mathlib.Core.List.{List, [], _∷_, _++_, map, append-assoc, append-nil}
-use Prim.Native.Nat.{ℕ, zero, suc, _+_, _*_, _-_, _≤_, _<_, max}
+use mathlib.Core.List.{List, [], _∷_, _++_}
+use Prim.Native.Nat.{ℕ, zero, suc, _+_, _-_, _≤_, _<_, max}
 use native.Mathlib.Omega.{arith}
 use lib.ListN.{length, length-append, length-map}
-use Rattle.layout.specs.Machine.{Entry, start, more, mark, emit, rest, scan, left, pend, layout}
+use Rattle.layout.specs.Machine.{Entry, more, mark, emit, rest, scan, left, pend, layout}
 use Rattle.lists.specs.Runs.{total}
 
 pub Runs : Type 0

@@ -1,7 +1,7 @@
 -- The function that takes an entry out, path by path, and the whole remove.
 use mathlib.Core.Path.{_≡_, refl, sym, ap, ap₂, _∙_, subst}
 use mathlib.Core.Bool.{Bool, true, false, cond}
-use mathlib.Core.List.{List, [], _∷_, _++_, append-assoc, append-nil}
+use mathlib.Core.List.{List, [], _∷_, _++_, append-assoc}
 use Prim.Native.Nat.{ℕ, zero, suc, _+_, _*_, _-_, _/_, _%_, _≤_, _<_}
 use native.Mathlib.Omega.{arith}
 use lib.Dec.{T, leb, ltb}
@@ -13,7 +13,7 @@ use Rattle.layout.specs.Machine.{layout}
 use Rattle.lists.specs.Runs.{total}
 use Rattle.layout.specs.Decode.{turn, placeOf, runAt}
 use Rattle.layout.specs.Document.{carry}
-use Rattle.layout.specs.Moves.{wrap, pull, drawing, drawn, cleared, removeAt, occs}
+use Rattle.layout.specs.Moves.{wrap, pull, drawing, drawn, removeAt, occs}
 use Rattle.layout.specs.Reading.{index}
 use Rattle.lists.specs.Runs.{erase, has}
 use Rattle.lists.specs.Runs.{rising}
@@ -22,7 +22,7 @@ use Rattle.layout.proofs.Round.{run-at}
 use Rattle.layout.proofs.Same.{turn-length, place-of}
 use Rattle.layout.proofs.Bridge.{get-wrap, set-wrap, turn-injective}
 use Rattle.layout.proofs.Calls.{remove-at}
-use Rattle.layout.proofs.Searches.{index-le, erase-at, has-at, has-none, erase-gone}
+use Rattle.layout.proofs.Searches.{erase-at, has-at, has-none, erase-gone}
 use Rattle.layout.proofs.Puts.{own-word, own-set, layout-length, run-room}
 
 -- ---- the occupied bits of slots 1 to k - 1 of a circle

@@ -1,18 +1,17 @@
 -- The function that puts an entry in, path by path, and the whole insert.
 use mathlib.Core.Path.{_≡_, refl, sym, ap, ap₂, _∙_}
-use mathlib.Core.Bool.{Bool, true, false}
 use mathlib.Core.List.{List, [], _∷_, _++_, append-assoc}
 use Prim.Native.Nat.{ℕ, zero, suc, _+_, _*_, _-_, _/_, _%_, _≤_, _<_}
 use native.Mathlib.Omega.{arith}
 use lib.Dec.{leb}
-use lib.ListN.{length, take, drop, getD, set, length-set, length-drop, take-append-drop}
+use lib.ListN.{length, take, drop, getD, set, length-set, take-append-drop}
 use lib.Seq.{drop-cons, take-suc-set, drop-set-lt, length-take-le}
-use Rattle.layout.specs.Machine.{Entry, start, more, occupied, emit, pend, layout}
+use Rattle.layout.specs.Machine.{Entry, start, more, occupied, pend, layout}
 use Rattle.lists.specs.Runs.{total}
-use Rattle.layout.specs.Decode.{turn, entry, entryOf, placeOf, runAt, reading}
+use Rattle.layout.specs.Decode.{turn, entry, entryOf, placeOf, runAt}
 use Rattle.layout.specs.Document.{carry}
 use Rattle.layout.specs.Moves.{wrap, push, ifEmpty, going, slide, insertAt}
-use Rattle.layout.specs.Reading.{runFrom, index}
+use Rattle.layout.specs.Reading.{index}
 use Rattle.lists.specs.Runs.{add}
 use Rattle.layout.proofs.Laws.{scan-length}
 use Rattle.layout.proofs.Round.{run-at, occupied-bit}

@@ -2,14 +2,14 @@
 use mathlib.Core.Path.{_≡_, refl, sym, ap, ap₂, _∙_, subst}
 use mathlib.Core.Logic.{_⊎_, inl, inr}
 use mathlib.Core.List.{List, [], _∷_, _++_, map, append-assoc, append-nil}
-use Prim.Native.Nat.{ℕ, zero, suc, _+_, _*_, _-_, _/_, _%_, _≤_, _<_}
+use Prim.Native.Nat.{ℕ, zero, suc, _+_, _*_, _-_, _%_, _≤_, _<_}
 use native.Mathlib.Omega.{arith}
-use lib.ListN.{length, take, drop, getD, length-append, length-map, take-append-drop}
-use Rattle.layout.specs.Machine.{Entry, start, more, code, occupied, mark, emit, rest, scan, left, pend, layout}
+use lib.ListN.{length, take, drop, length-append}
+use Rattle.layout.specs.Machine.{Entry, start, more, code, occupied, mark, emit, rest, scan, left, pend}
 use Rattle.lists.specs.Runs.{total}
-use Rattle.layout.proofs.Laws.{mark-length, rest-length, scan-length, left-append, scan-append, Gap, lap, forget, total-append, seam}
+use Rattle.layout.proofs.Laws.{rest-length, Gap, lap, seam}
 use Rattle.layout.specs.Decode.{entry}
-use Rattle.layout.proofs.Round.{marks, filled, drained, entry-moved, entry-home, occupied-bit, shifted-bit, home-bit}
+use Rattle.layout.proofs.Round.{marks, filled, entry-moved, occupied-bit, shifted-bit, home-bit}
 use Rattle.layout.proofs.Insert.{replaced}
 use Rattle.layout.specs.Moves.{choose, closer, isStart, pull}
 

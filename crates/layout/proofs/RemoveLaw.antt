@@ -1,19 +1,18 @@
 -- The words of a circle begun at an address, when the address's run loses the entry behind us: in place, k slots on.
 use mathlib.Core.Path.{_≡_, refl, sym, ap, ap₂, _∙_, subst}
-use mathlib.Core.List.{List, [], _∷_, _++_, map, append-assoc, append-nil}
-use Prim.Native.Nat.{ℕ, zero, suc, _+_, _*_, _-_, _/_, _%_, _≤_, _<_}
+use mathlib.Core.List.{List, [], _∷_, _++_, map, append-assoc}
+use Prim.Native.Nat.{ℕ, suc, _+_, _*_, _-_, _/_, _%_, _≤_, _<_}
 use native.Mathlib.Omega.{arith}
 use lib.ListN.{length, take, drop, getD, length-append, length-map, take-append-drop}
 use lib.Seq.{length-take-le, take-at}
 use Rattle.layout.specs.Machine.{Entry, start, more, code, occupied, mark, emit, rest, scan, left, pend, layout}
 use Rattle.lists.specs.Runs.{total}
-use Rattle.layout.proofs.Laws.{Gap, mark-length, total-append, scan-append, scan-length}
-use Rattle.layout.specs.Decode.{entry}
+use Rattle.layout.proofs.Laws.{Gap, scan-append, scan-length}
 use Rattle.layout.proofs.Round.{marks, filled, occs-scan, occupied-bit}
 use Rattle.layout.proofs.Same.{room}
 use Rattle.layout.proofs.Insert.{pend-others, layout-from, map-more, replaced}
 use Rattle.layout.proofs.Remove.{starts, starts-append, starts-more, starts-mark, starts-marks, pulled, take-out, gap-skip, gap-tail, gap-here, no-gap}
-use Rattle.layout.specs.Moves.{cleared, drawn, occs, pull, removeAt}
+use Rattle.layout.specs.Moves.{drawn, occs, pull, removeAt}
 
 occupied-le : (r : List ℕ) → occupied r ≤ 1
 occupied-le [] = omega arith

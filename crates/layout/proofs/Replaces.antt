@@ -1,11 +1,11 @@
 -- A payload of a run is written over in its place: how the layout changes, and the whole replace.
 use mathlib.Core.Path.{_≡_, refl, sym, ap, ap₂, _∙_, subst}
-use mathlib.Core.Bool.{Bool, true, false}
+use mathlib.Core.Bool.{true, false}
 use mathlib.Core.List.{List, [], _∷_, _++_, map, append-assoc}
-use Prim.Native.Nat.{ℕ, zero, suc, _+_, _*_, _-_, _/_, _%_, _≤_, _<_}
+use Prim.Native.Nat.{ℕ, suc, _+_, _*_, _-_, _%_, _≤_, _<_}
 use native.Mathlib.Omega.{arith}
 use lib.Dec.{T, leb}
-use lib.ListN.{length, take, drop, getD, set, length-append, length-map, length-set, length-drop, take-append-drop}
+use lib.ListN.{length, take, drop, getD, set, length-append, length-map, length-set, take-append-drop}
 use lib.Seq.{drop-cons, set-split, length-take-le}
 use Rattle.layout.specs.Machine.{Entry, start, more, code, occupied, mark, emit, rest, scan, left, pend, layout}
 use Rattle.lists.specs.Runs.{total}

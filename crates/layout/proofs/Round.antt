@@ -1,15 +1,15 @@
 -- What is decoded of a layout is what was laid out.
-use mathlib.Core.Path.{_≡_, refl, sym, ap, ap₂, _∙_, subst}
+use mathlib.Core.Path.{_≡_, refl, sym, ap, ap₂, _∙_}
 use mathlib.Core.Logic.{_⊎_, inl, inr}
 use mathlib.Core.List.{List, [], _∷_, _++_, map, reverse, reverseAux, append-assoc, append-nil, reverseAux-append}
-use Prim.Native.Nat.{ℕ, zero, suc, _+_, _*_, _-_, _/_, _%_, _≤_, _<_, max}
+use Prim.Native.Nat.{ℕ, zero, suc, _+_, _*_, _-_, _/_, _%_, _≤_, _<_}
 use native.Mathlib.Omega.{arith}
-use lib.ListN.{length, take, drop, getD, length-append, length-map, take-append-drop}
+use lib.ListN.{length, take, drop, getD, length-append, take-append-drop}
 use lib.Seq.{take-at, drop-at, length-take-le, split-at}
 use Rattle.layout.specs.Machine.{Entry, start, more, code, occupied, mark, emit, rest, scan, left, pend, layout}
 use Rattle.lists.specs.Runs.{total}
-use Rattle.layout.proofs.Laws.{mark-length, rest-length, scan-length, left-append, scan-append, Gap, lap, agree, turn-pend, layout-split, total-append, empty, seam, left-room}
-use Rattle.layout.specs.Decode.{turn, entryOf, entry, stop, stop′, steps, passed, mores, nth, firstMark, skip, ahead, lastPlace, placeOf, reading, lastRun, runAt, runsFrom, decode}
+use Rattle.layout.proofs.Laws.{rest-length, scan-length, left-append, scan-append, layout-split, total-append, seam, left-room}
+use Rattle.layout.specs.Decode.{turn, entryOf, entry, stop, stop′, steps, passed, mores, nth, firstMark, skip, ahead, lastPlace, reading, lastRun, runAt, runsFrom, decode}
 use Rattle.layout.specs.Moves.{occs}
 
 pub map-append : (a b : List ℕ) → map entry (a ++ b) ≡ map entry a ++ map entry b

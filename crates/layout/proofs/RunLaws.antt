@@ -2,22 +2,20 @@
 use mathlib.Core.Path.{_≡_, refl, sym, ap, ap₂, _∙_}
 use mathlib.Core.Bool.{Bool, true, false, cond}
 use mathlib.Core.List.{List, [], _∷_, _++_, map, reverse, append-nil}
-use Prim.Native.Nat.{ℕ, zero, suc, _+_, _*_, _-_, _/_, _%_, _≤_, _<_}
+use Prim.Native.Nat.{ℕ, zero, suc, _+_, _-_, _/_, _%_, _≤_, _<_}
 use native.Mathlib.Omega.{arith}
-use native.Mathlib.Decide.{decLt, decLe}
-use lib.Dec.{ltb, leb, eqb}
-use borrow.Author.Tests.{lt-ltb, le-ltb, lt-leb, le-leb, eq-eqb}
-use lib.ListN.{length, take, drop, getD, set, length-drop, length-append}
+use native.Mathlib.Decide.{decLt}
+use lib.Dec.{ltb}
+use borrow.Author.Tests.{lt-ltb, le-ltb, le-leb}
+use lib.ListN.{length, drop, getD, length-drop}
 use lib.Seq.{drop-cons, take-length, drop-length}
 use Rattle.layout.specs.Machine.{Entry, start, more}
-use Rattle.layout.specs.Decode.{turn, entry, entryOf, stop, stop′, steps, passed, mores, nth, skip, ahead, reading, lastRun, lastPlace, runAt, placeOf}
+use Rattle.layout.specs.Decode.{turn, entry, entryOf, stop′, steps, passed, mores, nth, skip, ahead, reading, lastRun, lastPlace, runAt, placeOf}
 use Rattle.layout.specs.Moves.{wrap, back, lefts, rights}
-use Rattle.layout.specs.Reading.{payloadOf, here, runFrom, homeOf, index}
-use Rattle.lists.specs.Runs.{add, erase, count}
-use Rattle.layout.proofs.Rises.{Above, Rising}
+use Rattle.layout.specs.Reading.{payloadOf, here, runFrom, homeOf}
 use Rattle.layout.proofs.Same.{turn-length}
 use Rattle.layout.proofs.Bridge.{turn-home, get-back}
-use Rattle.layout.proofs.Walks.{lefts-length, rights-length, read}
+use Rattle.layout.proofs.Walks.{rights-length, read}
 
 -- ---- where a run is
 

@@ -1,19 +1,19 @@
 -- The document's table is the machine's layout.
-use mathlib.Core.Path.{_≡_, refl, sym, ap, ap₂, _∙_, subst}
-use mathlib.Core.Bool.{Bool, true, false, cond}
+use mathlib.Core.Path.{_≡_, refl, sym, ap, ap₂, _∙_}
+use mathlib.Core.Bool.{Bool, cond}
 use mathlib.Core.Logic.{_⊎_, inl, inr}
 use mathlib.Core.List.{List, [], _∷_, _++_, map, append-assoc, append-nil}
-use Prim.Native.Nat.{ℕ, zero, suc, _+_, _*_, _-_, _/_, _%_, _≤_, _<_, max}
+use Prim.Native.Nat.{ℕ, zero, suc, _+_, _*_, _-_, _%_, _≤_, _<_, max}
 use native.Mathlib.Nat.{mod-eq-of-lt, add-mod-right, max-comm, suc-mod, mod-self, mod-lt}
 use native.Mathlib.Omega.{arith}
 use native.Mathlib.Decide.{decLt}
 use lib.Dec.{leb, ltb}
 use borrow.Author.Tests.{lt-ltb, le-ltb, le-leb, lt-leb}
 use lib.ListN.{length, take, drop, getD, length-append, length-map, length-drop, take-append-drop, List·getD-append}
-use lib.Seq.{take-at, drop-at, length-take-le, split-at, drop-cons, getD-drop, getD-take, getD-append-add}
-use Rattle.layout.specs.Machine.{Entry, start, more, code, occupied, mark, emit, rest, scan, left, pend, layout}
+use lib.Seq.{take-at, drop-at, length-take-le, drop-cons, getD-drop, getD-take, getD-append-add}
+use Rattle.layout.specs.Machine.{Entry, more, code, occupied, mark, emit, rest, scan, left, pend, layout}
 use Rattle.lists.specs.Runs.{total}
-use Rattle.layout.proofs.Laws.{mark-length, rest-length, scan-length, left-append, scan-append, Gap, lap, agree, turn-pend, layout-split, total-append, empty, seam, left-room, most, pend-most}
+use Rattle.layout.proofs.Laws.{mark-length, rest-length, scan-length, Gap, lap, turn-pend, layout-split, total-append, seam, most, pend-most}
 use Rattle.layout.specs.Decode.{turn, placeOf, lastPlace}
 use Rattle.layout.proofs.Round.{last-place, turn-layout}
 use Rattle.layout.specs.Document.{runOf, before, largest, carry, flag, entryAt, wordAt, wordsFrom, table}

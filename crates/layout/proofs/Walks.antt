@@ -1,11 +1,11 @@
 -- The steps of the loops that only read.
 use mathlib.Core.Path.{_≡_, refl, sym, ap, ap₂, _∙_}
-use mathlib.Core.List.{List, [], _∷_, _++_, map, reverse}
-use Prim.Native.Nat.{ℕ, zero, suc, _+_, _*_, _-_, _/_, _%_, _≤_, _<_}
+use mathlib.Core.List.{List, [], _∷_, map, reverse}
+use Prim.Native.Nat.{ℕ, zero, suc, _+_, _-_, _/_, _%_, _≤_, _<_}
 use native.Mathlib.Omega.{arith}
-use lib.ListN.{length, take, drop, getD, length-reverse, length-map}
+use lib.ListN.{length, drop, getD, length-reverse, length-map}
 use lib.Seq.{drop-cons}
-use Rattle.layout.specs.Machine.{Entry, start, more}
+use Rattle.layout.specs.Machine.{Entry, start}
 use Rattle.layout.specs.Decode.{turn, entry, entryOf, stop, steps, firstMark, passed, skip, ahead, lastPlace, placeOf}
 use Rattle.layout.proofs.Same.{turn-length}
 use Rattle.layout.proofs.Bridge.{get-wrap, get-back, turn-home}

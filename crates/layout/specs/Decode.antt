@@ -1,6 +1,6 @@
 -- What a table's words hold: the run of an address, read as the calls read it.
 use mathlib.Core.List.{List, [], _∷_, _++_, map, reverse}
-use Prim.Native.Nat.{ℕ, zero, suc, _+_, _*_, _-_, _/_, _%_}
+use Prim.Native.Nat.{ℕ, zero, suc, _+_, _-_, _/_, _%_}
 use lib.ListN.{length, take, drop, getD}
 use Rattle.layout.specs.Machine.{Entry, start, more}
 

@@ -1,9 +1,9 @@
 -- What the walks of the code read: runs by their place in a circle of words.
-use mathlib.Core.Bool.{Bool, true, false, cond}
+use mathlib.Core.Bool.{Bool, cond}
 use mathlib.Core.List.{List, [], _∷_}
-use Prim.Native.Nat.{ℕ, zero, suc, _+_, _≤_, _<_}
-use lib.Dec.{ltb, leb, eqb}
-use lib.ListN.{length, drop, getD}
+use Prim.Native.Nat.{ℕ, suc}
+use lib.Dec.{ltb}
+use lib.ListN.{drop}
 use Rattle.layout.specs.Machine.{Entry, start, more}
 use Rattle.layout.specs.Decode.{mores}
 use Rattle.layout.specs.Moves.{wrap, back, rights}

@@ -1,6 +1,6 @@
 -- What adding to a run and erasing from it keep and change: order, length, total and how often each payload is there, all by induction on the run.
-use mathlib.Core.Path.{_≡_, refl, sym, ap, ap₂, _∙_, subst}
-use mathlib.Core.Bool.{Bool, true, false, cond, _&&_}
+use mathlib.Core.Path.{_≡_, refl, sym, ap, ap₂, _∙_}
+use mathlib.Core.Bool.{Bool, true, cond}
 use mathlib.Core.List.{List, [], _∷_, _++_}
 use Prim.Native.Nat.{ℕ, zero, suc, _+_, _-_, _≤_, _<_}
 use native.Mathlib.Omega.{arith}
@@ -9,7 +9,7 @@ use lib.Dec.{leb, eqb, T, leb→le, le→leb}
 use lib.ListN.{length, getD, set, replicate}
 use borrow.Author.Tests.{eq-eqb, ne-eqb, le-leb, lt-leb}
 use Rattle.lists.specs.Lists.{bit, sum}
-use Rattle.lists.specs.Runs.{Runs, rising, risesFrom, add, erase, has, count, hits, total}
+use Rattle.lists.specs.Runs.{Runs, rising, risesFrom, add, erase, has, count, total}
 use Rattle.lists.proofs.Tests.{and-left, and-right, and-both, no-true, leb-cases, eqb-cases, is, is-yes, is-no}
 use Rattle.lists.proofs.Alls.{All, all-map}
 use Rattle.lists.proofs.Sums.{Same, sum-append}

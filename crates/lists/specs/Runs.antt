@@ -1,6 +1,6 @@
 -- Document 01, "Slots": "entries of one canonical slot form a run in rising payload order". A run is the list of its payloads, and the contents of a table
 -- are its runs: element c is the run of address c.
-use Prim.Native.Nat.{ℕ, zero, suc, _+_}
+use Prim.Native.Nat.{ℕ, _+_}
 use mathlib.Core.Bool.{Bool, true, false, cond, _&&_}
 use mathlib.Core.List.{List, [], _∷_}
 use lib.Dec.{leb, eqb}

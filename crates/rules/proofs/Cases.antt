@@ -1,5 +1,5 @@
 -- The twelve cases of document 01 hold, and so do ours: the checker computes the tables of specs/Cases.antt on the definitions.
-use mathlib.Core.Bool.{Bool, true, false, _&&_}
+use mathlib.Core.Bool.{_&&_}
 use mathlib.Core.List.{[], _∷_}
 use lib.Dec.{T}
 use Rattle.lists.specs.Lists

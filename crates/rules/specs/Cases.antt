@@ -1,8 +1,8 @@
 -- Document 01, "Numbers to check by hand": the twelve cases, and further cases of ours, as tables that proofs/Cases.antt computes on the definitions.
-use Prim.Native.Nat.{ℕ, zero, suc, _+_, _*_, _^_}
-use mathlib.Core.Bool.{Bool, true, false, _&&_}
+use Prim.Native.Nat.{ℕ, zero, suc, _+_, _*_}
+use mathlib.Core.Bool.{Bool, true, _&&_}
 use mathlib.Core.List.{List, [], _∷_, _++_}
-use lib.ListN.{length, take, getD, set, replicate}
+use lib.ListN.{length, take, getD, replicate}
 use lib.Dec.{eqb}
 use Rattle.lists.specs.Lists.{every, same}
 use Rattle.directory.specs.declared.Place.{Place}

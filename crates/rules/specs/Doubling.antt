@@ -1,7 +1,7 @@
 -- Document 01, "What the calls do", Double: "an entry with L of at least 1 gives its lowest bit to become the top bit of its address; a void goes to both
 -- addresses. .. Each entry that becomes void stores its new address, k+1 bits, as a mother hash. If there are any, one annex table is added."
 use Prim.Native.Nat.{ℕ, zero, suc, _+_, _*_, _/_, _%_, _^_}
-use mathlib.Core.Bool.{Bool, true, false}
+use mathlib.Core.Bool.{true, false}
 use mathlib.Core.List.{List, [], _∷_, _++_, map}
 use lib.ListN.{replicate}
 use lib.Dec.{leb, eqb}

@@ -2,7 +2,7 @@
 -- directory has none"; "The part lookup has no number: where 2 holds, or the annex is shorter than the tables in use, it returns an empty part." And the exported
 -- Query: "exported Query: k not 3 to 20, W not 4 to 26" is 2, "(exported: 4 times 2^k bytes)" is 3; "the answer is the same".
 use Prim.Native.Nat.{ℕ, zero, suc, _*_, _^_}
-use mathlib.Core.Bool.{Bool, true, false, _&&_}
+use mathlib.Core.Bool.{true, false, _&&_}
 use mathlib.Core.List.{List, [], _∷_}
 use lib.ListN.{length}
 use lib.Dec.{leb, ltb, eqb}

@@ -1,5 +1,5 @@
 -- Document 01, "Refusal numbers and their order": the tests of numbers 2, 3 and 11, and how an order of tests gives a number.
-use Prim.Native.Nat.{ℕ, zero, suc, _+_, _-_, _^_}
+use Prim.Native.Nat.{ℕ, _^_}
 use mathlib.Core.Bool.{Bool, true, false, _&&_}
 use mathlib.Core.List.{List, [], _∷_}
 use lib.Dec.{leb, eqb}

@@ -2,7 +2,7 @@
 -- bits of c. If none, go on. Otherwise remove it from the annex, and at each other address of the main table with those low b bits remove one void, if there is
 -- one. At the end all tombstones go".
 use Prim.Native.Nat.{ℕ, zero, suc, _/_, _%_, _^_}
-use mathlib.Core.Bool.{Bool, true, false, not, _&&_}
+use mathlib.Core.Bool.{true, false, not, _&&_}
 use mathlib.Core.List.{List, [], _∷_, map}
 use lib.Dec.{ltb, eqb}
 use Rattle.lists.specs.Lists.{mapAt}

@@ -1,6 +1,6 @@
 -- Document 01, "What the calls do": Audit, Settle, Double. "Order: .. Audit and Settle 2, 3, 4. Double 2, 9, 3, 4, 8, 10."
 use Prim.Native.Nat.{ℕ, zero, suc, _+_, _^_}
-use mathlib.Core.Bool.{Bool, true, false, not, _&&_, _||_}
+use mathlib.Core.Bool.{Bool, not, _&&_, _||_}
 use mathlib.Core.List.{List, [], _∷_, _++_, map}
 use lib.ListN.{length, take, drop}
 use lib.Dec.{leb, eqb}

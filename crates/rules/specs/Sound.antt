@@ -1,13 +1,13 @@
 -- Document 01, "What the calls do": "A state is sound if the main and annex tables are layouts of what they decode to, main payloads below 2^W with k+L at least
 -- 6 for every entry with bits, annex payloads all of length b-s, with correct counts; queue addresses are below 2^k; each address has as many tombstones as even
 -- queue words naming it; and its voids number the mother hashes matching it less the queue words naming it, or 0 if that is negative."
-use Prim.Native.Nat.{ℕ, zero, suc, _+_, _-_, _*_, _/_, _^_}
-use mathlib.Core.Bool.{Bool, true, false, _&&_, _||_}
+use Prim.Native.Nat.{ℕ, _+_, _-_, _*_, _/_, _^_}
+use mathlib.Core.Bool.{Bool, true, _&&_, _||_}
 use mathlib.Core.List.{List, [], _∷_, map}
 use lib.ListN.{take, drop}
 use lib.Dec.{leb, ltb, eqb}
 use Rattle.lists.specs.Lists.{every, same, mapAt}
-use Rattle.lists.specs.Runs.{Runs, rising, count, total}
+use Rattle.lists.specs.Runs.{rising, count, total}
 use Rattle.slots.specs.Payload.{void, tombstone, restOf, lengthOf}
 use Rattle.layout.specs.Machine.{layout}
 use Rattle.layout.specs.Decode.{decode}

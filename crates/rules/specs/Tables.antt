@@ -1,7 +1,6 @@
 -- Document 01, "What the calls do": "An annex table for length b follows its predecessor directly. .. It is laid out as above with payload width 18 and
 -- fingerprint length b-s".
-use Prim.Native.Nat.{ℕ, zero, suc, _+_, _-_, _/_, _%_, _^_}
-use mathlib.Core.Bool.{Bool, true, false}
+use Prim.Native.Nat.{ℕ, _+_, _-_, _/_, _%_, _^_}
 use mathlib.Core.List.{List, [], _∷_, _++_}
 use lib.ListN.{getD, take, drop}
 use Rattle.lists.specs.Lists.{sum}

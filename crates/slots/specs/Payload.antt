@@ -1,7 +1,7 @@
 -- Document 01, "Slots": "A payload of width W holds, from the top, W-1-L ones, a zero, and the L fingerprint bits. L = 0 is a void entry. W ones are a
 -- tombstone."
-use Prim.Native.Nat.{ℕ, zero, suc, _+_, _-_, _*_, _/_, _%_, _^_}
-use mathlib.Core.Bool.{Bool, true, false, cond, _&&_}
+use Prim.Native.Nat.{ℕ, zero, suc, _+_, _-_, _/_, _%_, _^_}
+use mathlib.Core.Bool.{Bool, cond, _&&_}
 use lib.Dec.{ltb, eqb}
 
 -- width w, fingerprint f of length l

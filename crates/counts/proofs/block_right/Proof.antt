@@ -1,6 +1,5 @@
 -- The counters are filled from the queue and from the annex, and then compared with the runs.
 use mathlib.Core.Path.{refl}
-use native.Mathlib.Omega.{arith}
 use borrow.Author.Needs.{needs}
 use Rattle.counts.specs.Tally.{blockSize}
 use Rattle.counts.proofs.Tallies.{tallied-none, none-raised}
