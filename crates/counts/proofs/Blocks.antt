@@ -16,7 +16,7 @@ use Rattle.lists.proofs.Tests.{no-true}
 use Rattle.slots.specs.Payload.{tombstone, void}
 use Rattle.layout.specs.Decode.{decode, placeOf}
 use Rattle.layout.specs.Document.{carry}
-use Rattle.layout.proofs.Same.{place-of}
+use Rattle.layout.proofs.Same.{place-of, carry-next}
 use Rattle.layout.proofs.Puts.{layout-length, run-room}
 use Rattle.rules.specs.Tables.{Table, mothersOf}
 use Rattle.rules.specs.Sound.{naming, addressRight}
@@ -45,7 +45,7 @@ module _ (words : List ℕ) (p : Laid words) where
   small = omega (arith, p .small, same-size)
 
   module _ (c k : ℕ) (hc : c < length words) where
-    pub in-runs : c < length (decode words)
+    in-runs : c < length (decode words)
     in-runs = omega (arith, same-size)
 
     pub carry-is : k ≡ placeOf words c → k ≡ carry (decode words) c
@@ -58,15 +58,13 @@ module _ (words : List ℕ) (p : Laid words) where
       pub read-is : readAt words c k ≡ getD (decode words) c []
       read-is = ap (λ (l : List ℕ). readAt l c k) (p .is) ∙ run-read (decode words) c in-runs small k ek
 
-      next-carry : (k′ : ℕ) → k′ ≡ k + length (readAt words c k) - 1 → c + 1 < length words → k′ ≡ carry (decode words) (c + 1)
-      next-carry k′ e h =
+      -- with the run read here, the carry of the next slot, in a circle
+      pub carry-on : (k′ : ℕ) → k′ ≡ k + length (readAt words c k) - 1 → k′ ≡ carry (decode words) (suc c % length words)
+      carry-on k′ e =
           let runs = decode words in
           let m : c % length runs ≡ c = mod-eq-of-lt in-runs in
-          let l : suc c < length runs = omega (arith, same-size) in
-          let s : suc c % length runs ≡ suc c = mod-eq-of-lt l in
-          rw (add-one c)
-          (e ∙ ap₂ (λ (a : ℕ) (r : List ℕ). a + length r - 1) ek read-is
-          ∙ sym (ap (carry runs) (sym s) ∙ Rattle.layout.proofs.Same.carry-next runs c small ∙ ap (λ (j : ℕ). carry runs j + length (getD runs j []) - 1) m))
+          e ∙ ap₂ (λ (a : ℕ) (r : List ℕ). a + length r - 1) ek read-is
+          ∙ sym (carry-next runs c small ∙ ap (λ (j : ℕ). carry runs j + length (getD runs j []) - 1) m) ∙ ap (λ (n : ℕ). carry runs (suc c % n)) same-size
 
       -- the code's test of the address
       test-is : (w : ℕ) (ts : List Table) (ws : List ℕ) (good : Bool) (named even mothers : ℕ) → named ≡ naming c ws → even ≡ count (c * 2) ws → mothers ≡ mothersOf c ts
@@ -104,8 +102,9 @@ module _ (words : List ℕ) (base : ℕ) (p : Laid words) where
 
     pub waits-next : (k′ : ℕ) → k′ ≡ k + length (readAt words (base + i) k) - 1 → Waits words (base + (i + 1)) k′
     waits-next k′ e h =
-        let z : base + i + 1 ≡ base + (i + 1) = omega arith in
-        next-carry words p (base + i) k hc (s hc) k′ e (omega arith) ∙ ap (carry (decode words)) z
+        let l : suc (base + i) < length words = omega arith in
+        let z : suc (base + i) ≡ base + (i + 1) = omega arith in
+        carry-on words p (base + i) k hc (s hc) k′ e ∙ ap (carry (decode words)) (mod-eq-of-lt l ∙ z)
 
 module _ (words ws : List ℕ) (w : ℕ) (ts : List Table) (base : ℕ) (p : Laid words) where
   pub stand-start : (k : ℕ) → k ≡ carry (decode words) base → Stand (addressRight w ts ws) words base (base + 0) k

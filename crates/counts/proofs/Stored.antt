@@ -18,6 +18,7 @@ use Rattle.directory.specs.declared.Place.{Place}
 use Rattle.directory.specs.Places.{noPlace, placesInUse}
 use Rattle.rules.specs.Tables.{hashEntry, matching, mothersOf, tables}
 use Rattle.rules.specs.Sound.{tableRight, annexEntry, annexRight}
+use Rattle.annex.specs.Stored.{tableOf}
 use Rattle.sound.specs.Reading.{Laid}
 use Rattle.sound.proofs.Tables.{right-laid}
 use Rattle.counts.specs.Tally.{blockSize, AtMost, Raised, Stored}
@@ -47,7 +48,7 @@ room-1 s x e h = omega (arith, pow-mono {i = 3} {j = s} h)
 -- ---- one table
 
 -- it has at most as many mother hashes for an address as slots
-few-match : (c b s : ℕ) (part : List ℕ) → Laid part → length part ≡ 2 ^ s → length part ≤ 1048576 → matching c (record { b = b; s = s; runs = decode part }) ≤ 1048576
+few-match : (c b s : ℕ) (part : List ℕ) → Laid part → length part ≡ 2 ^ s → length part ≤ 1048576 → matching c (tableOf b s part) ≤ 1048576
 unfolding matching
 few-match c b s part laid n h =
     let runs = decode part in
@@ -84,7 +85,7 @@ module _ (places : List Place) (annex : List ℕ) (c i at total : ℕ) (s : Sum 
     sum-stop z = sum-done (not-taken places i p hi ep z)
 
     pub sum-on : (p .b ≡ 0 → ⊥) → Walk places annex i at → (size x : ℕ) → size ≡ 2 ^ p .s
-        → x ≡ matching c (record { b = p .b; s = p .s; runs = decode (take (at + size - at) (drop at annex)) }) → x ≤ 1048576
+        → x ≡ matching c (tableOf (p .b) (p .s) (take (at + size - at) (drop at annex))) → x ≤ 1048576
         → Sum places annex c (i + 1) (at + size) (total + x)
     unfolding mothersOf tables sum
     sum-on nz w size x es ex l =
@@ -155,7 +156,7 @@ module _ (places : List Place) (annex : List ℕ) (base n : ℕ) where
             right-laid (annexEntry (p .b - p .s)) (p .count) part (walk-few places i p hi ep nz annex at w size es)
             (test-true table (and-left table others-right right))
 
-        pub sums-on : (after : List ℕ) → Raised (λ c. matching c (record { b = p .b; s = p .s; runs = decode part })) base n mothers after
+        pub sums-on : (after : List ℕ) → Raised (λ c. matching c (tableOf (p .b) (p .s) part)) base n mothers after
             → Sums places annex base n (i + 1) (at + size) after
         sums-on after r =
             record {
@@ -163,7 +164,7 @@ module _ (places : List Place) (annex : List ℕ) (base n : ℕ) where
               each =
                   λ j h. subst (Sum places annex (base + j) (i + 1) (at + size)) (sym (r .raised j h))
                   (sum-on places annex (base + j) i at (getD mothers j 0) (u .each j h) p hi ep nz w size
-                  (matching (base + j) (record { b = p .b; s = p .s; runs = decode part })) es refl
+                  (matching (base + j) (tableOf (p .b) (p .s) part)) es refl
                   (few-match (base + j) (p .b) (p .s) part sums-laid (walk-size places i p hi ep nz annex at w size es)
                   (room-20 (p .s) (p .b) (length part) (walk-size places i p hi ep nz annex at w size es) (walk-below places i p hi ep nz annex at w)
                   (walk-most places i p hi ep nz annex at w))));

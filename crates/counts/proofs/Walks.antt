@@ -5,6 +5,7 @@ use mathlib.Core.Bool.{Bool, cond}
 use mathlib.Core.List.{List, []}
 use Prim.Native.Nat.{ℕ, suc, _+_, _-_, _*_, _/_, _%_, _^_, _≤_, _<_, _∣_}
 use native.Mathlib.Omega.{arith}
+use native.Mathlib.Numerals.{add-one}
 use native.Mathlib.Decide.{ℕ-discrete, decLt}
 use native.Mathlib.Nat.{mod-lt, mod-self, suc-mod, mod-eq-of-lt, zero-mod, mod-add-div', add-mul-div-right, div-eq-of-lt, dvd-mul-left, mod-mod-of-dvd}
 use borrow.Author.Tests.{lt-ltb, le-ltb}
@@ -14,14 +15,14 @@ use lib.Seq.{getD-set-same, getD-set-other}
 use Rattle.lists.specs.Runs.{count}
 use Rattle.slots.specs.Payload.{pay}
 use Rattle.layout.specs.Decode.{decode, placeOf}
-use Rattle.layout.specs.Document.{carry, runOf}
+use Rattle.layout.specs.Document.{carry}
 use Rattle.layout.specs.Moves.{wrap}
-use Rattle.layout.proofs.Same.{carry-next}
 use Rattle.rules.specs.Tables.{hashEntry, matching}
+use Rattle.annex.specs.Stored.{tableOf}
 use Rattle.sound.specs.Reading.{Laid, Read, readAt}
 use Rattle.counts.specs.Tally.{Raised, AtMost}
 use Rattle.counts.proofs.Stored.{count-le}
-use Rattle.counts.proofs.Blocks.{same-size, small, carry-is, carry-small, read-is}
+use Rattle.counts.proofs.Blocks.{carry-is, carry-small, carry-on, read-is}
 
 -- ---- the payload stays the same up to the end of the table
 
@@ -58,18 +59,15 @@ same-print s b c h nz = go (ℕ-discrete (suc (c % 2 ^ b)) (2 ^ b))
 
 -- ---- the next slot
 
-next-slot : (n c a : ℕ) → 0 < n → a ≡ c % n → wrap n a 1 ≡ suc c % n
+one-round : (n a : ℕ) → a < n → wrap n a 1 ≡ suc a % n
 unfolding wrap
-next-slot n c a pos e = go (decLt (a + 1) n)
+one-round n a h = go (decLt (a + 1) n)
   where
-    whole : suc c % n ≡ (a + 1) % n
-    whole = let z : suc (c % n) ≡ a + 1 = omega arith in suc-mod c n ∙ ap (λ (y : ℕ). y % n) z
-
-    go : Dec (a + 1 < n) → wrap n a 1 ≡ suc c % n
-    go (yes h) = ap (λ (b : Bool). cond b (a + 1) (a + 1 - n)) (lt-ltb (a + 1) n h) ∙ sym (whole ∙ mod-eq-of-lt h)
-    go (no h) =
-        let z : a + 1 ≡ n = omega (arith, mod-lt c pos) in
-        ap (λ (b : Bool). cond b (a + 1) (a + 1 - n)) (le-ltb (a + 1) n (omega arith)) ∙ (omega (arith, whole ∙ ap (λ (y : ℕ). y % n) z ∙ mod-self n))
+    go : Dec (a + 1 < n) → wrap n a 1 ≡ suc a % n
+    go (yes l) = ap (λ (b : Bool). cond b (a + 1) (a + 1 - n)) (lt-ltb (a + 1) n l) ∙ (omega (arith, mod-eq-of-lt l, ap (λ (x : ℕ). x % n) (add-one a)))
+    go (no l) =
+        let z : suc a ≡ n = omega arith in
+        ap (λ (b : Bool). cond b (a + 1) (a + 1 - n)) (le-ltb (a + 1) n (omega arith)) ∙ (omega (arith, ap (λ (x : ℕ). x % n) z ∙ mod-self n))
 
 -- ---- at address c: its slot in the table, the entries that wait there, and the payload of a mother hash that matches it
 
@@ -101,22 +99,19 @@ module _ (part : List ℕ) (b s : ℕ) (laid : Laid part) (en : length part ≡ 
     run-is : readAt part a k ≡ getD (decode part) (c % 2 ^ s) []
     run-is = read-is part laid a k reached-in (r .waiting) ∙ ap (λ (x : ℕ). getD (decode part) x []) (r .slot)
 
-    pub reached-count : (m : ℕ) → m ≡ count p (readAt part a k) → m ≡ matching c (record { b = b; s = s; runs = decode part })
+    pub reached-count : (m : ℕ) → m ≡ count p (readAt part a k) → m ≡ matching c (tableOf b s part)
     unfolding matching
     reached-count m e = e ∙ ap₂ (λ (x : ℕ) (l : List ℕ). count x l) (r .payload) run-is
 
     module _ (c′ a′ k′ : ℕ) (ec : c′ ≡ suc c) (ea : a′ ≡ wrap (length part) a 1) (ek : k′ ≡ k + length (readAt part a k) - 1) where
+      round : a′ ≡ suc a % length part
+      round = ea ∙ one-round (length part) a reached-in
+
       next-is : a′ ≡ suc c % 2 ^ s
-      next-is = ea ∙ ap (λ (n : ℕ). wrap n a 1) en ∙ next-slot (2 ^ s) c a (pow-pos s) (r .slot)
+      next-is = round ∙ ap₂ (λ (x y : ℕ). suc x % y) (r .slot) en ∙ sym (suc-mod c (2 ^ s))
 
       next-waiting : k′ ≡ carry (decode part) a′
-      next-waiting =
-          let runs = decode part in
-          let n : length runs ≡ 2 ^ s = same-size part laid ∙ en in
-          let at : a ≡ c % length runs = r .slot ∙ ap (λ (x : ℕ). c % x) (sym n) in
-          let run : readAt part a k ≡ runOf runs c = run-is ∙ ap (λ (x : ℕ). getD runs (c % x) []) (sym n) in
-          ek ∙ ap₂ (λ (x : ℕ) (l : List ℕ). x + length l - 1) (r .waiting ∙ ap (carry runs) at) run
-          ∙ sym (carry-next runs c (small part laid)) ∙ ap (λ (x : ℕ). carry runs (suc c % x)) n ∙ ap (carry runs) (sym next-is)
+      next-waiting = carry-on part laid a k reached-in (r .waiting) k′ ek ∙ ap (carry (decode part)) (sym round)
 
       -- where the table begins anew, the payload is asked for anew
       pub reached-anew : (p′ : ℕ) → p′ ≡ hashEntry b s (c′ % 2 ^ b) → Reached part b s c′ a′ k′ p′

@@ -12,6 +12,7 @@ ghost use Rattle.layout.specs.Document.{carry};
 ghost use Rattle.directory.specs.Places.{placesInUse, directoryRight, wordsTaken};
 ghost use Rattle.rules.specs.Tables.{Table, matching, tables};
 ghost use Rattle.rules.specs.Sound.{annexRight, addressRight};
+ghost use Rattle.annex.specs.Stored.{tableOf};
 ghost use Rattle.sound.specs.Reading.{Laid, readAt};
 ghost use Rattle.counts.specs.Tally.{blockSize, Tallied, Others, AtMost, Raised, Stored};
 ghost use Rattle.counts.specs.Blocks.{addressTest, rightFrom, Block};
@@ -105,7 +106,7 @@ fn tally_block(queue: &[u32], base: u32, names: &mut [u32], evens: &mut [u32])
 fn tally_table(part: &[u32], b: u32, s: u32, base: u32, n: usize, mothers: &mut [u32])
     requires { ⌜ (3 ≤ s) × (s < b) × (b ≤ 20) × (length (now part) ≡ 2 ^ s) × Laid (now part) × (base ≤ 1048576) × (n ≤ blockSize) × (length (now mothers) ≡ blockSize)
         × AtMost 15728640 (now mothers) ⌝ }
-    ensures { λ r. ⌜ Raised (λ c. matching c (record { b = b; s = s; runs = decode (now (part .entry)) })) base n (now (mothers .entry)) (now (mothers .exit)) ⌝ }
+    ensures { λ r. ⌜ Raised (λ c. matching c (tableOf b s (now (part .entry)))) base n (now (mothers .entry)) (now (mothers .exit)) ⌝ }
 {
     let size = part.len();
     let mut a = annex::hash_slot(s, base);

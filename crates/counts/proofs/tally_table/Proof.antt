@@ -4,8 +4,8 @@ use mathlib.Core.Path.{_≡_, refl}
 use native.Mathlib.Omega.{arith}
 use borrow.Author.Needs.{needs}
 use lib.ListN.{length}
-use Rattle.layout.specs.Decode.{decode}
 use Rattle.rules.specs.Tables.{matching}
+use Rattle.annex.specs.Stored.{tableOf}
 use Rattle.sound.specs.Reading.{readAt}
 use Rattle.counts.specs.Tally.{Raised}
 use Rattle.counts.proofs.Stored.{room-20, room-1}
@@ -15,7 +15,7 @@ use Rattle.counts.proofs.tally_table.Tie as tie
 
 abbrev Inv-loop : tie.InvT-loop
 Inv-loop part b s base n mothers₀ size a₀ p₀ k₀ i₀ mothers a p k i =
-    (i ≤ n) × Reached part b s (base + i) a k p × Raised (λ c. matching c (record { b = b; s = s; runs = decode part })) base i mothers₀ mothers
+    (i ≤ n) × Reached part b s (base + i) a k p × Raised (λ c. matching c (tableOf b s part)) base i mothers₀ mothers
 
 abbrev μ-loop : tie.MeasureT-loop
 μ-loop part b s base n mothers₀ size a₀ p₀ k₀ i₀ mothers a p k i = n - i
