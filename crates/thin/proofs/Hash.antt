@@ -42,7 +42,7 @@ use Rattle.filter.proofs.Record as T
 use Rattle.filter.proofs.Record.Laws as T′
 use Rattle.filter.proofs.Answer as N
 use Rattle.filter.proofs.Answer.Laws as N′
-use Rattle.kjarnhul.proofs.Thin.{machine, rec-is, number-fits}
+use Rattle.thin.proofs.Answers.{machine, rec-is, number-fits}
 
 -- the two signatures: the thin function's, and that of the call by value
 abbrev pub ended : Ended

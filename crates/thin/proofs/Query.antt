@@ -36,7 +36,7 @@ use denote.Exit.{yes}
 use Rattle.filter.specs.declared.Record.{Record}
 use Rattle.filter.proofs.Record as T
 use Rattle.filter.proofs.Record.Laws as T′
-use Rattle.kjarnhul.proofs.Thin.{machine}
+use Rattle.thin.proofs.Answers.{machine}
 
 -- the two signatures: the thin function's, and that of the call by value
 abbrev pub ended : Ended

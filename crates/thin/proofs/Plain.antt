@@ -1,5 +1,5 @@
 -- The walk of a thin function over a lent record and its words alone, as Audit and Settle are, once, whatever call by value it makes and whatever that promises; it goes as that
--- of `ThinHash`.
+-- of `Hash`.
 use mathlib.Core.Path.{_≡_, refl, ap}
 use Prim.Native.Nat.{ℕ, _<_, _^_}
 use mathlib.Core.List.{[], _∷_, List}
@@ -42,7 +42,7 @@ use Rattle.filter.proofs.Record as T
 use Rattle.filter.proofs.Record.Laws as T′
 use Rattle.filter.proofs.Answer as N
 use Rattle.filter.proofs.Answer.Laws as N′
-use Rattle.kjarnhul.proofs.Thin.{machine, rec-is, number-fits}
+use Rattle.thin.proofs.Answers.{machine, rec-is, number-fits}
 
 -- the two signatures: the thin function's, and that of the call by value
 abbrev pub ended : Ended
