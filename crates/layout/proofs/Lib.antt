@@ -5,6 +5,7 @@ pub mod Round
 pub mod Same
 pub mod Insert
 pub mod Bridge
+pub mod Wraps
 pub mod Remove
 pub mod Loops
 pub mod Walks

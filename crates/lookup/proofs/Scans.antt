@@ -7,38 +7,16 @@ use Prim.Native.Nat.{ℕ, suc, _+_, _-_, _/_, _%_, _≤_, _<_}
 use native.Mathlib.Omega.{arith}
 use native.Mathlib.Decide.{decLt}
 use lib.ListN.{length, getD}
-use borrow.Author.Tests.{lt-ltb, le-ltb, le-leb}
+use borrow.Author.Tests.{lt-ltb, le-leb}
 use Rattle.layout.specs.Decode.{steps, passed, skip, turn, reading, placeOf}
 use Rattle.layout.specs.Moves.{wrap, back, lefts, rights}
 use Rattle.layout.specs.Reading.{runFrom, homeOf}
 use Rattle.layout.proofs.Searches.{Seeking, seeking-start, seeking-on, true-lt, false-le}
+use Rattle.layout.proofs.Wraps.{wrap-first, wrap-next}
 use Rattle.layout.proofs.Walks.{lefts-length, rights-length, left-start, left-stop, right-start, right-found, read, seen}
 use Rattle.layout.proofs.RunLaws.{Answer, run-length, step-first, step-stop, step-on, located, carried}
 use Rattle.lookup.specs.Spots.{First}
 use Rattle.lookup.proofs.Finds.{first-found, first-none}
-
-low : (n p k : ℕ) → p + k < n → wrap n p k ≡ p + k
-unfolding wrap
-low n p k h = ap (λ (z : Bool). cond z (p + k) (p + k - n)) (lt-ltb (p + k) n h)
-
-high : (n p k : ℕ) → n ≤ p + k → wrap n p k ≡ p + k - n
-unfolding wrap
-high n p k h = ap (λ (z : Bool). cond z (p + k) (p + k - n)) (le-ltb (p + k) n h)
-
--- one slot on from slot i, which is t slots on from b
-next-slot : (n b t i : ℕ) → b < n → t + 1 < n → i ≡ wrap n b t → wrap n i 1 ≡ wrap n b (t + 1)
-next-slot n b t i hb ht e = go (decLt (b + t) n) (decLt (b + t + 1) n)
-  where
-    go : Dec (b + t < n) → Dec (b + t + 1 < n) → wrap n i 1 ≡ wrap n b (t + 1)
-    go (yes g) (yes h) =
-        let d : i ≡ b + t = e ∙ low n b t g in
-        low n i 1 (omega arith) ∙ (omega arith) ∙ sym (low n b (t + 1) (omega arith))
-    go (yes g) (no h) =
-        let d : i ≡ b + t = e ∙ low n b t g in
-        high n i 1 (omega arith) ∙ (omega arith) ∙ sym (high n b (t + 1) (omega arith))
-    go (no g) h =
-        let d : i ≡ b + t - n = e ∙ high n b t (omega arith) in
-        low n i 1 (omega arith) ∙ (omega arith) ∙ sym (high n b (t + 1) (omega arith))
 
 -- the entries before the linear place t are passed; i is its slot, and p the payload there, unless the circle ends
 pub record Scanning (f : ℕ → Bool) (ws : List ℕ) (b from n t i p : ℕ) : Type 0 where
@@ -88,7 +66,7 @@ module _ (f : ℕ → Bool) (ws : List ℕ) (b from n : ℕ) (hb : b < n) (hn : 
         place = let begun = s .begun in omega arith
 
         at : t + 1 < n → j ≡ wrap n b (from + (t + 1 - from))
-        at g = ej ∙ next-slot n b t i hb g (s .slot h) ∙ ap (wrap n b) (sym place)
+        at g = wrap-next n b t i j hb h (s .slot h) ej ∙ ap (wrap n b) (sym place)
 
         later : t + 1 - from ≡ 0 → ⊥
         later z = let begun = s .begun in omega arith
@@ -133,10 +111,9 @@ module _ (ws : List ℕ) (c v : ℕ) (hc : c < length ws) (h : 1 < length ws) (e
 
   none-right : skip 0 (rights ws c) ≡ 0
   none-right =
-      let w : c ≡ wrap (length ws) c 0 = sym (low (length ws) c 0 (omega arith) ∙ (omega arith)) in
       let e : getD ws c 0 / 2 % 2 ≡ 0 = omega arith in
       right-found (rights ws c) 0 0 0 (getD ws c 0 / 2 % 2) (getD ws c 0 / 8) (omega (arith, rights-length ws c))
-      (read ws c 0 (length ws) c hc (omega arith) refl w) (right-start (rights ws c) 0) e refl
+      (read ws c 0 (length ws) c hc (omega arith) refl (wrap-first (length ws) c hc)) (right-start (rights ws c) 0) e refl
 
   pub home-located : runFrom ws c 0 ≡ reading (turn (suc c) ws)
   home-located = located ws c 0 0 c 0 hc h (none-left .0) (none-left .1) home none-right

@@ -21,6 +21,14 @@ pub fn around(p: usize, k: usize, n: usize) -> usize
     if p + k < n { p + k } else { p + k - n }
 }
 
+// The slot after i, in a circle of n.
+pub fn after(i: usize, n: usize) -> usize
+    requires { ⌜ (i < n) × (n ≤ 1048576) ⌝ }
+    ensures { λ r. ⌜ (r ≡ wrap n i 1) × (r < n) ⌝ }
+{
+    if i + 1 < n { i + 1 } else { 0 }
+}
+
 // k slots to the left of c, in a circle of n.
 fn behind(c: usize, k: usize, n: usize) -> usize
     requires { ⌜ (c < n) × (k < n) × (n ≤ 1048576) ⌝ }

@@ -1,11 +1,9 @@
 -- The arms of the code's match on the three low bits are those of the lap's step, and the loop goes on with what is left of the lap.
 use mathlib.Core.Path.{_≡_, refl, sym, ap, _∙_}
-use mathlib.Core.Bool.{Bool, true, false, cond, _&&_}
+use mathlib.Core.Bool.{Bool, true, false, _&&_}
 use mathlib.Core.List.{List, _∷_}
 use Prim.Native.Nat.{ℕ, zero, suc, _+_, _-_, _/_, _%_, _≤_, _<_}
 use native.Mathlib.Omega.{arith}
-use native.Mathlib.Decide.{decLt}
-use borrow.Author.Tests.{lt-ltb, le-ltb}
 use lib.Dec.{leb, ltb, eqb}
 use lib.ListN.{length, drop, getD}
 use lib.Seq.{drop-cons}
@@ -70,30 +68,6 @@ module _ (f : ℕ → Bool) (s : Lap) (w : ℕ) where
     pub count-on : (j : ℕ) → s .count ≤ j → r .count ≤ j + 1
     unfolding at step
     count-on j h = omega (arith, ap (λ (x : Lap). x .count) e, rises (w % 8) .2)
-
--- ---- the slot j slots on from z, and the one after it
-
-pub first-slot : (n z : ℕ) → z < n → z ≡ wrap n z 0
-unfolding wrap
-first-slot n z h =
-    let e : z + 0 ≡ z = omega arith in
-    sym (ap (λ (b : Bool). cond b (z + 0) (z + 0 - n)) (lt-ltb (z + 0) n (omega arith)) ∙ e)
-
-pub next-slot : (n z j i i′ : ℕ) → z < n → j < n → i ≡ wrap n z j → i′ ≡ wrap n i 1 → i′ ≡ wrap n z (j + 1)
-unfolding wrap
-next-slot n z j i i′ hz hj e e′ = go (decLt (z + j) n) (decLt (z + (j + 1)) n)
-  where
-    go : Dec (z + j < n) → Dec (z + (j + 1) < n) → i′ ≡ cond (ltb (z + (j + 1)) n) (z + (j + 1)) (z + (j + 1) - n)
-    go (yes a) (yes b) =
-        let f : i ≡ z + j = e ∙ ap (λ (t : Bool). cond t (z + j) (z + j - n)) (lt-ltb (z + j) n a) in
-        rw (lt-ltb (z + (j + 1)) n b) (e′ ∙ ap (λ (t : Bool). cond t (i + 1) (i + 1 - n)) (lt-ltb (i + 1) n (omega arith)) ∙ omega arith)
-    go (yes a) (no b) =
-        let f : i ≡ z + j = e ∙ ap (λ (t : Bool). cond t (z + j) (z + j - n)) (lt-ltb (z + j) n a) in
-        rw (le-ltb (z + (j + 1)) n (omega arith)) (e′ ∙ ap (λ (t : Bool). cond t (i + 1) (i + 1 - n)) (le-ltb (i + 1) n (omega arith)) ∙ omega arith)
-    go (no a) (yes b) = absurd (a (omega arith))
-    go (no a) (no b) =
-        let f : i ≡ z + j - n = e ∙ ap (λ (t : Bool). cond t (z + j) (z + j - n)) (le-ltb (z + j) n (omega arith)) in
-        rw (le-ltb (z + (j + 1)) n (omega arith)) (e′ ∙ ap (λ (t : Bool). cond t (i + 1) (i + 1 - n)) (lt-ltb (i + 1) n (omega arith)) ∙ omega arith)
 
 -- ---- the lap: after j slots
 

@@ -1,4 +1,2 @@
--- Laws of the walk from slot to slot, and of what moves to the left.
-mod Wraps
-mod Closers
+-- A table of zeros.
 pub mod Clears

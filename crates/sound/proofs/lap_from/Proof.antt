@@ -8,7 +8,8 @@ use Rattle.layout.specs.Decode.{turn}
 use Rattle.layout.specs.Moves.{wrap}
 use Rattle.sound.specs.Spans.{allowed}
 use Rattle.sound.specs.Lap.{fits, start}
-use Rattle.sound.proofs.Steps.{opened-on, begun-on, count-on, first-slot, next-slot, lap-on, lap-off, lap-end}
+use Rattle.layout.proofs.Wraps.{wrap-first, wrap-next}
+use Rattle.sound.proofs.Steps.{opened-on, begun-on, count-on, lap-on, lap-off, lap-end}
 use Rattle.sound.proofs.lap_from.Statement.{statement}
 use Rattle.sound.proofs.lap_from.Tie as tie
 
@@ -21,7 +22,7 @@ abbrev μ-loop : tie.MeasureT-loop
 μ-loop words z count t n s₀ i₀ j₀ s i j = n - j
 
 loop-holds : tie.Need-loop-holds Inv-loop μ-loop
-loop-holds c = (omega arith, search (needs, first-slot), omega arith, omega arith, omega arith, omega arith, search needs)
+loop-holds c = (omega arith, search (needs, wrap-first), omega arith, omega arith, omega arith, omega arith, search needs)
 
 mul-w : tie.Need-mul-w Inv-loop μ-loop
 mul-w c = search needs
@@ -42,7 +43,7 @@ loop-less : tie.Need-loop-less Inv-loop μ-loop
 loop-less c = search needs
 
 loop-again : tie.Need-loop-again Inv-loop μ-loop
-loop-again c = (omega arith, search (needs, next-slot), omega arith, search (needs, opened-on), search (needs, begun-on), search (needs, count-on), search (needs, lap-on))
+loop-again c = (omega arith, search (needs, wrap-next), omega arith, search (needs, opened-on), search (needs, begun-on), search (needs, count-on), search (needs, lap-on))
 
 returns : tie.Need-returns Inv-loop μ-loop
 returns c = search (needs, lap-off)

@@ -14,6 +14,9 @@ wrap-low n p k h = ap (λ (b : Bool). cond b (p + k) (p + k - n)) (lt-ltb (p + k
 pub wrap-high : (n p k : ℕ) → n ≤ p + k → wrap n p k ≡ p + k - n
 unfolding wrap
 wrap-high n p k h = ap (λ (b : Bool). cond b (p + k) (p + k - n)) (le-ltb (p + k) n h)
+
+pub wrap-first : (n p : ℕ) → p < n → p ≡ wrap n p 0
+wrap-first n p h = omega (arith, wrap-low n p 0 (omega arith))
 
 pub wrap-next : (n p k i j : ℕ) → p < n → k < n → i ≡ wrap n p k → j ≡ wrap n i 1 → j ≡ wrap n p (k + 1)
 wrap-next n p k i j hp hk ei ej = go (decLt (p + k) n) (decLt (p + (k + 1)) n)

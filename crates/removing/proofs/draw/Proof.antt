@@ -1,4 +1,4 @@
--- `table::draw` closes the gap along the circle begun at c: what is still to come of it is the same at each step; i is the slot k on from c, and w its word.
+-- `removing::draw` closes the gap along the circle begun at c: what is still to come of it is the same at each step; i is the slot k on from c, and w its word.
 use Prim.Native.Nat.{ℕ, _≤_, _<_, _-_, _+_, _%_}
 use mathlib.Core.Path.{_≡_, refl, sym, ap, _∙_}
 use native.Mathlib.Omega.{arith}
@@ -7,10 +7,10 @@ use lib.Seq.{getD-set-other}
 use Rattle.layout.specs.Decode.{turn, entry}
 use Rattle.layout.specs.Moves.{closer, drawing, isStart, wrap}
 use Rattle.layout.proofs.Draws.{draw-last, draw-stop, draw-on}
-use Rattle.table.proofs.Wraps.{wrap-next, wrap-other}
+use Rattle.layout.proofs.Wraps.{wrap-next, wrap-other}
 use borrow.Author.Needs.{needs}
-use Rattle.table.proofs.draw.Statement.{statement}
-use Rattle.table.proofs.draw.Tie as tie
+use Rattle.removing.proofs.draw.Statement.{statement}
+use Rattle.removing.proofs.draw.Tie as tie
 
 abbrev Inv-loop : tie.InvT-loop
 Inv-loop ws₀ c from m n q₀ k₀ i₀ w₀ ws q k i w =

@@ -1,4 +1,4 @@
--- `table::put` is `insertAt` on the circle begun at c: one law of the layout for each return.
+-- `inserting::put` is `insertAt` on the circle begun at c: one law of the layout for each return.
 use mathlib.Core.Path.{_≡_, sym, ap, ap₂, _∙_}
 use Prim.Native.Nat.{ℕ, _+_, _*_}
 use native.Mathlib.Omega.{arith}
@@ -7,8 +7,8 @@ use Rattle.layout.specs.Decode.{turn}
 use Rattle.layout.specs.Moves.{going}
 use Rattle.layout.proofs.Puts.{put-home, put-push, put-new, put-later, put-head}
 use borrow.Author.Needs.{needs}
-use Rattle.table.proofs.put.Statement.{statement}
-use Rattle.table.proofs.put.Tie as tie
+use Rattle.inserting.proofs.put.Statement.{statement}
+use Rattle.inserting.proofs.put.Tie as tie
 
 mul-w : tie.Need-mul-w
 mul-w c = search needs

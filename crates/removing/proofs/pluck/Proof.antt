@@ -1,4 +1,4 @@
--- `table::pluck` is `removeAt` on the circle begun at c: one law of the layout for each return.
+-- `removing::pluck` is `removeAt` on the circle begun at c: one law of the layout for each return.
 use mathlib.Core.Path.{refl, ap, ap₂, _∙_}
 use Prim.Native.Nat.{ℕ, _+_}
 use native.Mathlib.Omega.{arith}
@@ -7,8 +7,8 @@ use Rattle.layout.specs.Decode.{turn}
 use Rattle.layout.specs.Moves.{drawing}
 use Rattle.layout.proofs.Plucks.{pluck-only, pluck-home, pluck-away, pluck-later, pluck-first}
 use borrow.Author.Needs.{needs}
-use Rattle.table.proofs.pluck.Statement.{statement}
-use Rattle.table.proofs.pluck.Tie as tie
+use Rattle.removing.proofs.pluck.Statement.{statement}
+use Rattle.removing.proofs.pluck.Tie as tie
 
 mul-ws : tie.Need-mul-ws
 mul-ws c = search needs

@@ -1,4 +1,4 @@
--- `table::shove` pushes the entry in hand along the circle begun at c: what is still to come of it is the same at each step, and i is the slot k on from c.
+-- `inserting::shove` pushes the entry in hand along the circle begun at c: what is still to come of it is the same at each step, and i is the slot k on from c.
 use Prim.Native.Nat.{_≤_, _<_, _-_, _%_}
 use mathlib.Core.Path.{_≡_, refl, sym, _∙_}
 use native.Mathlib.Omega.{arith}
@@ -7,10 +7,10 @@ use Rattle.layout.specs.Decode.{turn}
 use Rattle.layout.specs.Moves.{going, wrap}
 use Rattle.layout.proofs.Loops.{going-end, shove-stop, shove-on}
 use Rattle.layout.proofs.Same.{turn-length}
-use Rattle.table.proofs.Wraps.{wrap-next}
+use Rattle.layout.proofs.Wraps.{wrap-next}
 use borrow.Author.Needs.{needs}
-use Rattle.table.proofs.shove.Statement.{statement}
-use Rattle.table.proofs.shove.Tie as tie
+use Rattle.inserting.proofs.shove.Statement.{statement}
+use Rattle.inserting.proofs.shove.Tie as tie
 
 abbrev Inv-loop : tie.InvT-loop
 Inv-loop ws₀ c from e n hand₀ k₀ i₀ ws hand k i =

@@ -1,9 +1,9 @@
--- `table::after` goes one slot on: the two branches are the two cases of the wrap.
+-- `lookup::after` goes one slot on: the two branches are the two cases of the wrap.
 use native.Mathlib.Omega.{arith}
-use Rattle.table.proofs.Wraps.{wrap-low, wrap-high}
+use Rattle.layout.proofs.Wraps.{wrap-low, wrap-high}
 use borrow.Author.Needs.{needs}
-use Rattle.table.proofs.after.Statement.{statement}
-use Rattle.table.proofs.after.Tie as tie
+use Rattle.lookup.proofs.after.Statement.{statement}
+use Rattle.lookup.proofs.after.Tie as tie
 
 add-if1 : tie.Need-add-if1
 add-if1 c = search needs

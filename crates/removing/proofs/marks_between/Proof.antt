@@ -1,4 +1,4 @@
--- `table::marks_between` counts the occupied bits along the circle begun at c; i is the slot j on from c.
+-- `removing::marks_between` counts the occupied bits along the circle begun at c; i is the slot j on from c.
 use Prim.Native.Nat.{ℕ, _≤_, _<_, _+_, _-_}
 use mathlib.Core.Path.{_≡_, refl, ap, _∙_}
 use native.Mathlib.Omega.{arith}
@@ -7,10 +7,10 @@ use Rattle.layout.specs.Decode.{turn}
 use Rattle.layout.specs.Moves.{occs, wrap}
 use Rattle.layout.proofs.Same.{turn-length}
 use Rattle.layout.proofs.Plucks.{bits-start, bits-on, word-at}
-use Rattle.table.proofs.Wraps.{wrap-next}
+use Rattle.layout.proofs.Wraps.{wrap-next}
 use borrow.Author.Needs.{needs}
-use Rattle.table.proofs.marks_between.Statement.{statement}
-use Rattle.table.proofs.marks_between.Tie as tie
+use Rattle.removing.proofs.marks_between.Statement.{statement}
+use Rattle.removing.proofs.marks_between.Tie as tie
 
 abbrev Inv-loop : tie.InvT-loop
 Inv-loop ws c k n m₀ j₀ i₀ m j i =

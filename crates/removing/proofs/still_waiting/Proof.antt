@@ -1,9 +1,9 @@
--- `table::still_waiting` counts the runs that wait: the entry that leaves begins a run where its bit continuation is 0.
+-- `removing::still_waiting` counts the runs that wait: the entry that leaves begins a run where its bit continuation is 0.
 use native.Mathlib.Omega.{arith}
-use Rattle.table.proofs.Closers.{start-bit}
+use Rattle.removing.proofs.Closers.{start-bit}
 use borrow.Author.Needs.{needs}
-use Rattle.table.proofs.still_waiting.Statement.{statement}
-use Rattle.table.proofs.still_waiting.Tie as tie
+use Rattle.removing.proofs.still_waiting.Statement.{statement}
+use Rattle.removing.proofs.still_waiting.Tie as tie
 
 cast-t : tie.Need-cast-t
 cast-t c = search needs

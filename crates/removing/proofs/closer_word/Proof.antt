@@ -1,8 +1,8 @@
--- `table::closer_word` is `closer` of the entry of v: at home where the bit continuation and m are both 0, and else away.
-use Rattle.table.proofs.Closers.{closer-home, closer-away}
+-- `removing::closer_word` is `closer` of the entry of v: at home where the bit continuation and m are both 0, and else away.
+use Rattle.removing.proofs.Closers.{closer-home, closer-away}
 use borrow.Author.Needs.{needs}
-use Rattle.table.proofs.closer_word.Statement.{statement}
-use Rattle.table.proofs.closer_word.Tie as tie
+use Rattle.removing.proofs.closer_word.Statement.{statement}
+use Rattle.removing.proofs.closer_word.Tie as tie
 
 cast-if1 : tie.Need-cast-if1
 cast-if1 c = search needs

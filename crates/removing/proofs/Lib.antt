@@ -1,0 +1,2 @@
+-- What moves to the left.
+mod Closers
