@@ -27,19 +27,25 @@ zero-place-requires : tie.Need-zero-place-requires Inv-loop μ-loop
 zero-place-requires c κs = search needs
 
 returns : tie.Need-returns Inv-loop μ-loop
-returns c = let l : length (c .before .before .before .before .before .before .before .args .t2) ≡ 15 = search needs in walk-wrong _ _ (free-wrong _ _ (c .before .before .before .before .before .before .before .args .t2) l _ _ (c .before .before .before .before .before .before .loop .inv) (c .before .before .before .before .before .loop-test .taken) _ (c .before .before .if1 .taken) (c .before .zero-place .ensures) (c .if2 .left))
+returns c =
+    let a = c .before .before .before .before .before .before .before .args in
+    let l : length (a .t2) ≡ 15 = search needs in walk-wrong _ _ (free-wrong _ _ (a .t2) l _ _ (c .before .before .before .before .before .before .loop .inv) (c .before .before .before .before .before .loop-test .taken) _ (c .before .before .if1 .taken) (c .before .zero-place .ensures) (c .if2 .left))
 
 place-right-requires : tie.Need-place-right-requires Inv-loop μ-loop
 place-right-requires c κs = search needs
 
 table-words-requires : tie.Need-table-words-requires Inv-loop μ-loop
-table-words-requires c κs = let l : length (c .before .before .before .before .before .before .before .args .t2) ≡ 15 = search needs in used-small _ _ (c .before .before .before .before .before .before .before .args .t2) l _ _ (c .before .before .before .before .before .before .loop .inv) (c .before .before .before .before .before .loop-test .taken) _ (c .before .before .if1 .left) (c .before .place-right .ensures) (c .before .before .before .before .before .before .before .pre) (c .if3 .taken)
+table-words-requires c κs =
+    let a = c .before .before .before .before .before .before .before .args in
+    let l : length (a .t2) ≡ 15 = search needs in used-small _ _ (a .t2) l _ _ (c .before .before .before .before .before .before .loop .inv) (c .before .before .before .before .before .loop-test .taken) _ (c .before .before .if1 .left) (c .before .place-right .ensures) (c .before .before .before .before .before .before .before .pre) (c .if3 .taken)
 
 add-words : tie.Need-add-words Inv-loop μ-loop
 add-words c = search needs
 
 returns-2 : tie.Need-returns-2 Inv-loop μ-loop
-returns-2 c = let l : length (c .before .before .before .before .before .before .before .args .t2) ≡ 15 = search needs in walk-wrong _ _ (used-wrong _ _ (c .before .before .before .before .before .before .before .args .t2) l _ _ (c .before .before .before .before .before .before .loop .inv) (c .before .before .before .before .before .loop-test .taken) _ (c .before .before .if1 .left) (c .before .place-right .ensures) (c .if3 .left))
+returns-2 c =
+    let a = c .before .before .before .before .before .before .before .args in
+    let l : length (a .t2) ≡ 15 = search needs in walk-wrong _ _ (used-wrong _ _ (a .t2) l _ _ (c .before .before .before .before .before .before .loop .inv) (c .before .before .before .before .before .loop-test .taken) _ (c .before .before .if1 .left) (c .before .place-right .ensures) (c .if3 .left))
 
 add-i : tie.Need-add-i Inv-loop μ-loop
 add-i c = search needs
@@ -48,13 +54,17 @@ loop-less : tie.Need-loop-less Inv-loop μ-loop
 loop-less c = search needs
 
 loop-again : tie.Need-loop-again Inv-loop μ-loop
-loop-again c = let l : length (c .before .before .before .before .before .args .t2) ≡ 15 = search needs in
-    ⊎-elim (λ x. free-step _ _ (c .before .before .before .before .before .args .t2) l _ _ (c .before .before .before .before .loop .inv) (c .before .before .before .loop-test .taken) _ (x .0 .taken) (x .1 .ensures) (x .2 .taken) _ _ (x .3) (x .4))
-    (λ x. used-step _ _ (c .before .before .before .before .before .args .t2) l _ _ (c .before .before .before .before .loop .inv) (c .before .before .before .loop-test .taken) _ (x .0 .left) (x .1 .ensures) (x .2 .taken) _ (x .3 .ensures) _ _ (x .4) (x .5))
+loop-again c =
+    let a = c .before .before .before .before .before .args in
+    let l : length (a .t2) ≡ 15 = search needs in
+    ⊎-elim (λ x. free-step _ _ (a .t2) l _ _ (c .before .before .before .before .loop .inv) (c .before .before .before .loop-test .taken) _ (x .0 .taken) (x .1 .ensures) (x .2 .taken) _ _ (x .3) (x .4))
+    (λ x. used-step _ _ (a .t2) l _ _ (c .before .before .before .before .loop .inv) (c .before .before .before .loop-test .taken) _ (x .0 .left) (x .1 .ensures) (x .2 .taken) _ (x .3 .ensures) _ _ (x .4) (x .5))
     (c .if1 .came)
 
 returns-3 : tie.Need-returns-3 Inv-loop μ-loop
-returns-3 c = let l : length (c .before .before .args .t2) ≡ 15 = search needs in walk-end _ _ (c .before .before .args .t2) l _ _ (c .before .loop .inv) (c .loop-test .left)
+returns-3 c =
+    let a = c .before .before .args in
+    let l : length (a .t2) ≡ 15 = search needs in walk-end _ _ (a .t2) l _ _ (c .before .loop .inv) (c .loop-test .left)
 
 pub read-spec : {M : Type 1} → statement M
 read-spec =

@@ -12,7 +12,9 @@ places-in-use-requires : tie.Need-places-in-use-requires
 places-in-use-requires c κs = search needs
 
 words-taken-requires : tie.Need-words-taken-requires
-words-taken-requires c κs = (search needs, right-sizes (c .before .before .args .self .k) (c .before .before .args .self .dir) (bounds (plain (c .before .before .args .self)) (c .before .before .pre) .k-20) (directory-of (plain (c .before .before .args .self)) (c .before .before .pre)))
+words-taken-requires c κs =
+    let a = c .before .before .args in
+    (search needs, right-sizes (a .self .k) (a .self .dir) (bounds (plain (a .self)) (c .before .before .pre) .k-20) (directory-of (plain (a .self)) (c .before .before .pre)))
 
 returns : tie.Need-returns
 returns c = let e = words-all _ _ _ (c .before .places-in-use .ensures .0) (c .words-taken .ensures .0) in

@@ -14,10 +14,14 @@ lent-right-requires : tie.Need-lent-right-requires
 lent-right-requires c κs = let t = true-test _ (sym (c .before .in-range .ensures .0) ∙ c .if1 .taken) in (t, c .before .in-range .ensures .1 t)
 
 returns : tie.Need-returns
-returns c = first-0 (plain (c .before .before .before .before .args .self)) _ _ _ (sym (c .before .before .before .in-range .ensures .0) ∙ c .before .before .if1 .taken) (sym (c .before .lent-right .ensures) ∙ c .if2 .taken)
+returns c =
+    let in-range = c .before .before .before .in-range .ensures in
+    first-0 (plain (c .before .before .before .before .args .self)) _ _ _ (sym (in-range .0) ∙ c .before .before .if1 .taken) (sym (c .before .lent-right .ensures) ∙ c .if2 .taken)
 
 returns-2 : tie.Need-returns-2
-returns-2 c = first-3 (plain (c .before .before .before .before .args .self)) _ _ _ (sym (c .before .before .before .in-range .ensures .0) ∙ c .before .before .if1 .taken) (sym (c .before .lent-right .ensures) ∙ c .if2 .left)
+returns-2 c =
+    let in-range = c .before .before .before .in-range .ensures in
+    first-3 (plain (c .before .before .before .before .args .self)) _ _ _ (sym (in-range .0) ∙ c .before .before .if1 .taken) (sym (c .before .lent-right .ensures) ∙ c .if2 .left)
 
 returns-3 : tie.Need-returns-3
 returns-3 c = first-2 (plain (c .before .before .args .self)) _ _ _ (sym (c .before .in-range .ensures .0) ∙ c .if1 .left)

@@ -16,9 +16,12 @@ add-result : tie.Need-add-result
 add-result c = let b = bounds (plain (c .before .before .before .args .self)) (c .before .before .before .pre) in omega (arith, b .settings .f-15, c .before .extra-bits .ensures .1)
 
 returns : tie.Need-returns
-returns c = let b = bounds (plain (c .before .before .before .args .self)) (c .before .before .before .pre) in
-    let e = fresh-is (plain (c .before .before .before .args .self)) _ (c .before .extra-bits .ensures .0) in
-    (e, (omega (arith, e, b .fresh-3), omega (arith, b .settings .f-15, c .before .extra-bits .ensures .1)))
+returns c =
+    let a = c .before .before .before .args in
+    let extra-bits = c .before .extra-bits .ensures in
+    let b = bounds (plain (a .self)) (c .before .before .before .pre) in
+    let e = fresh-is (plain (a .self)) _ (extra-bits .0) in
+    (e, (omega (arith, e, b .fresh-3), omega (arith, b .settings .f-15, extra-bits .1)))
 
 pub fresh-length-spec : {M : Type 1} → statement M
 fresh-length-spec = tie.close (tie.spec sub-extra-bits extra-bits-requires add-result returns)

@@ -18,15 +18,26 @@ places-in-use-requires : tie.Need-places-in-use-requires
 places-in-use-requires c κs = search needs
 
 words-taken-requires : tie.Need-words-taken-requires
-words-taken-requires c κs = let t = true-test _ (sym (c .before .before .before .in-range .ensures .0) ∙ c .before .before .if1 .taken) in
-    (search needs, right-sizes (c .before .before .before .before .before .args .self .k) (c .before .before .before .before .before .args .self .dir) (bounds (plain (c .before .before .before .before .before .args .self)) t .k-20) (directory-of (plain (c .before .before .before .before .before .args .self)) t))
+words-taken-requires c κs =
+    let a = c .before .before .before .before .before .args in
+    let in-range = c .before .before .before .in-range .ensures in
+    let t = true-test _ (sym (in-range .0) ∙ c .before .before .if1 .taken) in
+    (search needs, right-sizes (a .self .k) (a .self .dir) (bounds (plain (a .self)) t .k-20) (directory-of (plain (a .self)) t))
 
 part-requires : tie.Need-part-requires
-part-requires c κs = let t = true-test _ (sym (c .before .before .before .before .before .in-range .ensures .0) ∙ c .before .before .before .before .if1 .taken) in
-    (omega (arith, c .if2 .taken, words-all _ _ _ (c .before .before .places-in-use .ensures .0) (c .before .words-taken .ensures .0)), right-sizes (c .before .before .before .before .before .before .before .args .self .k) (c .before .before .before .before .before .before .before .args .self .dir) (bounds (plain (c .before .before .before .before .before .before .before .args .self)) t .k-20) (directory-of (plain (c .before .before .before .before .before .before .before .args .self)) t))
+part-requires c κs =
+    let a = c .before .before .before .before .before .before .before .args in
+    let in-range = c .before .before .before .before .before .in-range .ensures in
+    let if1 = c .before .before .before .before .if1 in
+    let t = true-test _ (sym (in-range .0) ∙ if1 .taken) in
+    (omega (arith, c .if2 .taken, words-all _ _ _ (c .before .before .places-in-use .ensures .0) (c .before .words-taken .ensures .0)), right-sizes (a .self .k) (a .self .dir) (bounds (plain (a .self)) t .k-20) (directory-of (plain (a .self)) t))
 
 returns : tie.Need-returns
-returns c = (c .part .ensures .0 ∙ part-there (plain (c .before .before .before .before .before .before .before .before .args .self)) _ _ (sym (c .before .before .before .before .before .before .in-range .ensures .0) ∙ c .before .before .before .before .before .if1 .taken) (omega (arith, c .before .if2 .taken, words-all _ _ _ (c .before .before .before .places-in-use .ensures .0) (c .before .before .words-taken .ensures .0))), c .part .ensures .1)
+returns c =
+    let in-range = c .before .before .before .before .before .before .in-range .ensures in
+    let if1 = c .before .before .before .before .before .if1 in
+    let places-in-use = c .before .before .before .places-in-use .ensures in
+    (c .part .ensures .0 ∙ part-there (plain (c .before .before .before .before .before .before .before .before .args .self)) _ _ (sym (in-range .0) ∙ if1 .taken) (omega (arith, c .before .if2 .taken, words-all _ _ _ (places-in-use .0) (c .before .before .words-taken .ensures .0))), c .part .ensures .1)
 
 sub-result : tie.Need-sub-result
 sub-result c = search needs
@@ -38,7 +49,11 @@ part-result-end : tie.Need-part-result-end
 part-result-end c = search needs
 
 returns-2 : tie.Need-returns-2
-returns-2 c = (part-short (plain (c .before .before .before .before .before .before .before .before .args .self)) _ _ (sym (c .before .before .before .before .before .before .in-range .ensures .0) ∙ c .before .before .before .before .before .if1 .taken) (omega (arith, c .before .if2 .left, words-all _ _ _ (c .before .before .before .places-in-use .ensures .0) (c .before .before .words-taken .ensures .0))), (refl, λ h. absurd (omega arith)))
+returns-2 c =
+    let in-range = c .before .before .before .before .before .before .in-range .ensures in
+    let if1 = c .before .before .before .before .before .if1 in
+    let places-in-use = c .before .before .before .places-in-use .ensures in
+    (part-short (plain (c .before .before .before .before .before .before .before .before .args .self)) _ _ (sym (in-range .0) ∙ if1 .taken) (omega (arith, c .before .if2 .left, words-all _ _ _ (places-in-use .0) (c .before .before .words-taken .ensures .0))), (refl, λ h. absurd (omega arith)))
 
 sub-result-2 : tie.Need-sub-result-2
 sub-result-2 c = search needs

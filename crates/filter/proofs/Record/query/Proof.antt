@@ -17,20 +17,35 @@ width-requires : tie.Need-width-requires
 width-requires c κs = first-right (plain (c .before .before .before .before .before .args .self)) _ _ _ (sym (c .before .first-number .ensures) ∙ c .if1 .left) .0
 
 canonical-requires : tie.Need-canonical-requires
-canonical-requires c κs = bounds-of (plain (c .before .before .before .before .before .before .args .self)) (c .before .before .before .before .before .before .args .main .now) (c .before .before .before .before .before .before .args .queue .now) (c .before .before .before .before .before .before .args .annex .now) (sym (c .before .if1 .left) ∙ c .before .before .first-number .ensures) .k-20
+canonical-requires c κs =
+    let a = c .before .before .before .before .before .before .args in
+    bounds-of (plain (a .self)) (a .main .now) (a .queue .now) (a .annex .now) (sym (c .before .if1 .left) ∙ c .before .before .first-number .ensures) .k-20
 
 cast-c : tie.Need-cast-c
 cast-c c = search needs
 
 first-match-requires : tie.Need-first-match-requires
-first-match-requires c κs = let v = walk (plain (c .before .before .before .before .before .before .before .args .self)) (c .before .before .before .before .before .before .before .args .main .now) (c .before .before .before .before .before .before .before .args .queue .now) (c .before .before .before .before .before .before .before .args .annex .now) (sym (c .before .before .if1 .left) ∙ c .before .before .before .first-number .ensures) _ _ (c .canonical .ensures .1) (c .before .width .ensures .0) in
+first-match-requires c κs =
+    let a = c .before .before .before .before .before .before .before .args in
+    let first-number = c .before .before .before .first-number .ensures in
+    let v = walk (plain (a .self)) (a .main .now) (a .queue .now) (a .annex .now) (sym (c .before .before .if1 .left) ∙ first-number) _ _ (c .canonical .ensures .1) (c .before .width .ensures .0) in
     (v .inside, v .most, v .more, v .wide, v .tall)
 
 returns-2 : tie.Need-returns-2
-returns-2 c = query-answered (plain (c .before .before .before .before .before .before .before .before .before .args .self)) _ _ _ _ (sym (c .before .before .before .before .if1 .left) ∙ c .before .before .before .before .before .first-number .ensures) _ (sym (c .if2 .taken) ∙ found-matched (plain (c .before .before .before .before .before .before .before .before .before .args .self)) (c .before .before .before .before .before .before .before .before .before .args .main .now) (c .before .before .before .before .before .before .before .before .before .args .queue .now) (c .before .before .before .before .before .before .before .before .before .args .annex .now) (c .before .before .before .before .before .before .before .before .before .args .hash) _ _ (c .before .before .canonical .ensures .0) (c .before .before .before .width .ensures .0) _ _ (c .before .first-match .ensures))
+returns-2 c =
+    let a = c .before .before .before .before .before .before .before .before .before .args in
+    let first-number = c .before .before .before .before .before .first-number .ensures in
+    let if1 = c .before .before .before .before .if1 in
+    let width = c .before .before .before .width .ensures in
+    query-answered (plain (a .self)) _ _ _ _ (sym (if1 .left) ∙ first-number) _ (sym (c .if2 .taken) ∙ found-matched (plain (a .self)) (a .main .now) (a .queue .now) (a .annex .now) (a .hash) _ _ (c .before .before .canonical .ensures .0) (width .0) _ _ (c .before .first-match .ensures))
 
 returns-3 : tie.Need-returns-3
-returns-3 c = query-answered (plain (c .before .before .before .before .before .before .before .before .before .args .self)) _ _ _ _ (sym (c .before .before .before .before .if1 .left) ∙ c .before .before .before .before .before .first-number .ensures) _ (sym (c .if2 .left) ∙ found-matched (plain (c .before .before .before .before .before .before .before .before .before .args .self)) (c .before .before .before .before .before .before .before .before .before .args .main .now) (c .before .before .before .before .before .before .before .before .before .args .queue .now) (c .before .before .before .before .before .before .before .before .before .args .annex .now) (c .before .before .before .before .before .before .before .before .before .args .hash) _ _ (c .before .before .canonical .ensures .0) (c .before .before .before .width .ensures .0) _ _ (c .before .first-match .ensures))
+returns-3 c =
+    let a = c .before .before .before .before .before .before .before .before .before .args in
+    let first-number = c .before .before .before .before .before .first-number .ensures in
+    let if1 = c .before .before .before .before .if1 in
+    let width = c .before .before .before .width .ensures in
+    query-answered (plain (a .self)) _ _ _ _ (sym (if1 .left) ∙ first-number) _ (sym (c .if2 .left) ∙ found-matched (plain (a .self)) (a .main .now) (a .queue .now) (a .annex .now) (a .hash) _ _ (c .before .before .canonical .ensures .0) (width .0) _ _ (c .before .first-match .ensures))
 
 pub query-spec : {M : Type 1} → statement M
 query-spec =

@@ -14,31 +14,48 @@ cast-q : tie.Need-cast-q
 cast-q c = search needs
 
 returns : tie.Need-returns
-returns c = renew-full (plain (c .before .before .before .before .args .self)) (c .before .before .before .before .args .main .now) (c .before .before .before .before .args .queue .now) (c .before .before .before .before .args .annex .now) (c .before .before .before .before .args .hash) _ _ (c .before .before .before .before .pre .0) _ (c .before .before .before .before .pre .2) (c .before .before .before .before .pre .1) (c .if1 .taken)
+returns c =
+    let a = c .before .before .before .before .args in
+    renew-full (plain (a .self)) (a .main .now) (a .queue .now) (a .annex .now) (a .hash) _ _ (c .before .before .before .before .pre .0) _ (c .before .before .before .before .pre .2) (c .before .before .before .before .pre .1) (c .if1 .taken)
 
 returns-2 : tie.Need-returns-2
-returns-2 c = renew-lent (plain (c .before .before .before .before .before .args .self)) (c .before .before .before .before .before .args .main .now) (c .before .before .before .before .before .args .queue .now) (c .before .before .before .before .before .args .annex .now) (c .before .before .before .before .before .args .hash) _ _ (c .before .before .before .before .before .pre .0) _ (c .before .before .before .before .before .pre .2) (c .before .before .before .before .before .pre .1) (c .if2 .taken)
+returns-2 c =
+    let a = c .before .before .before .before .before .args in
+    renew-lent (plain (a .self)) (a .main .now) (a .queue .now) (a .annex .now) (a .hash) _ _ (c .before .before .before .before .before .pre .0) _ (c .before .before .before .before .before .pre .2) (c .before .before .before .before .before .pre .1) (c .if2 .taken)
 
 exchange-requires : tie.Need-exchange-requires
-exchange-requires c κs = let v = place (plain (c .before .before .before .before .before .before .args .self)) (c .before .before .before .before .before .before .args .main .now) (c .before .before .before .before .before .before .args .queue .now) (c .before .before .before .before .before .before .args .annex .now) (c .before .before .before .before .before .before .args .hash) _ _ (c .before .before .before .before .before .before .pre .0) in (v .inside, v .most, v .more, fresh-small (plain (c .before .before .before .before .before .before .args .self)) (c .before .before .before .before .before .before .args .main .now) (c .before .before .before .before .before .before .args .queue .now) (c .before .before .before .before .before .before .args .annex .now) (c .before .before .before .before .before .before .args .hash) _ _ (c .before .before .before .before .before .before .pre .0) _ (c .before .before .before .before .before .before .pre .2))
+exchange-requires c κs =
+    let a = c .before .before .before .before .before .before .args in
+    let v = place (plain (a .self)) (a .main .now) (a .queue .now) (a .annex .now) (a .hash) _ _ (c .before .before .before .before .before .before .pre .0) in (v .inside, v .most, v .more, fresh-small (plain (a .self)) (a .main .now) (a .queue .now) (a .annex .now) (a .hash) _ _ (c .before .before .before .before .before .before .pre .0) _ (c .before .before .before .before .before .before .pre .2))
 
 cast-queue : tie.Need-cast-queue
-cast-queue c = let v = place (plain (c .before .before .before .before .before .before .before .before .before .before .args .self)) (c .before .before .before .before .before .before .before .before .before .before .args .main .now) (c .before .before .before .before .before .before .before .before .before .before .args .queue .now) (c .before .before .before .before .before .before .before .before .before .before .args .annex .now) (c .before .before .before .before .before .before .before .before .before .before .args .hash) _ _ (c .before .before .before .before .before .before .before .before .before .before .pre .0) in omega (arith, v .slots)
+cast-queue c =
+    let a = c .before .before .before .before .before .before .before .before .before .before .args in
+    let v = place (plain (a .self)) (a .main .now) (a .queue .now) (a .annex .now) (a .hash) _ _ (c .before .before .before .before .before .before .before .before .before .before .pre .0) in omega (arith, v .slots)
 
 mul-queue : tie.Need-mul-queue
-mul-queue c = let v = place (plain (c .before .before .before .before .before .before .before .before .before .before .args .self)) (c .before .before .before .before .before .before .before .before .before .before .args .main .now) (c .before .before .before .before .before .before .before .before .before .before .args .queue .now) (c .before .before .before .before .before .before .before .before .before .before .args .annex .now) (c .before .before .before .before .before .before .before .before .before .before .args .hash) _ _ (c .before .before .before .before .before .before .before .before .before .before .pre .0) in omega (arith, v .slots)
+mul-queue c =
+    let a = c .before .before .before .before .before .before .before .before .before .before .args in
+    let v = place (plain (a .self)) (a .main .now) (a .queue .now) (a .annex .now) (a .hash) _ _ (c .before .before .before .before .before .before .before .before .before .before .pre .0) in omega (arith, v .slots)
 
 add-queue : tie.Need-add-queue
-add-queue c = let v = place (plain (c .before .before .before .before .before .before .before .before .before .before .args .self)) (c .before .before .before .before .before .before .before .before .before .before .args .main .now) (c .before .before .before .before .before .before .before .before .before .before .args .queue .now) (c .before .before .before .before .before .before .before .before .before .before .args .annex .now) (c .before .before .before .before .before .before .before .before .before .before .args .hash) _ _ (c .before .before .before .before .before .before .before .before .before .before .pre .0) in omega (arith, v .slots)
+add-queue c =
+    let a = c .before .before .before .before .before .before .before .before .before .before .args in
+    let v = place (plain (a .self)) (a .main .now) (a .queue .now) (a .annex .now) (a .hash) _ _ (c .before .before .before .before .before .before .before .before .before .before .pre .0) in omega (arith, v .slots)
 
 mul-queue-2 : tie.Need-mul-queue-2
 mul-queue-2 c = search needs
 
 slice-write-queue : tie.Need-slice-write-queue
-slice-write-queue c = let v = place (plain (c .before .before .before .before .before .before .before .before .before .before .args .self)) (c .before .before .before .before .before .before .before .before .before .before .args .main .now) (c .before .before .before .before .before .before .before .before .before .before .args .queue .now) (c .before .before .before .before .before .before .before .before .before .before .args .annex .now) (c .before .before .before .before .before .before .before .before .before .before .args .hash) _ _ (c .before .before .before .before .before .before .before .before .before .before .pre .0) in let n = c .before .before .before .before .before .if2 .left in omega (arith, v .queued, n)
+slice-write-queue c =
+    let a = c .before .before .before .before .before .before .before .before .before .before .args in
+    let if2 = c .before .before .before .before .before .if2 in
+    let v = place (plain (a .self)) (a .main .now) (a .queue .now) (a .annex .now) (a .hash) _ _ (c .before .before .before .before .before .before .before .before .before .before .pre .0) in let n = if2 .left in omega (arith, v .queued, n)
 
 add-self : tie.Need-add-self
-add-self c = let b = bounds-of (plain (c .before .before .before .before .before .before .before .before .before .before .args .self)) (c .before .before .before .before .before .before .before .before .before .before .args .main .now) (c .before .before .before .before .before .before .before .before .before .before .args .queue .now) (c .before .before .before .before .before .before .before .before .before .before .args .annex .now) (c .before .before .before .before .before .before .before .before .before .before .pre .0 .lent) in omega (arith, b .queued-small)
+add-self c =
+    let a = c .before .before .before .before .before .before .before .before .before .before .args in
+    let b = bounds-of (plain (a .self)) (a .main .now) (a .queue .now) (a .annex .now) (c .before .before .before .before .before .before .before .before .before .before .pre .0 .lent) in omega (arith, b .queued-small)
 
 same-length : tie.Need-same-length
 same-length c = search needs
@@ -48,13 +65,21 @@ same-length-2 c = search needs
 
 returns-3 : tie.Need-returns-3
 unfolding change
-returns-3 c = renew-void (plain (c .before .before .before .before .before .before .before .before .before .before .args .self)) (c .before .before .before .before .before .before .before .before .before .before .args .main .now) (c .before .before .before .before .before .before .before .before .before .before .args .queue .now) (c .before .before .before .before .before .before .before .before .before .before .args .annex .now) (c .before .before .before .before .before .before .before .before .before .before .args .hash) _ _ (c .before .before .before .before .before .before .before .before .before .before .pre .0) _ (c .before .before .before .before .before .before .before .before .before .before .pre .2) (c .before .before .before .before .before .before .before .before .before .before .pre .1) _ _ _ (c .before .before .before .exchange .ensures) (c .if3 .taken) refl (c .before .before .before .before .before .before .if1 .left) (c .before .before .before .before .before .if2 .left)
+returns-3 c =
+    let a = c .before .before .before .before .before .before .before .before .before .before .args in
+    let if1 = c .before .before .before .before .before .before .if1 in
+    let if2 = c .before .before .before .before .before .if2 in
+    let exchange = c .before .before .before .exchange .ensures in
+    renew-void (plain (a .self)) (a .main .now) (a .queue .now) (a .annex .now) (a .hash) _ _ (c .before .before .before .before .before .before .before .before .before .before .pre .0) _ (c .before .before .before .before .before .before .before .before .before .before .pre .2) (c .before .before .before .before .before .before .before .before .before .before .pre .1) _ _ _ exchange (c .if3 .taken) refl (if1 .left) (if2 .left)
 
 same-length-3 : tie.Need-same-length-3
 same-length-3 c = search needs
 
 returns-4 : tie.Need-returns-4
-returns-4 c = renew-none (plain (c .before .before .before .before .before .before .before .before .before .before .args .self)) (c .before .before .before .before .before .before .before .before .before .before .args .main .now) (c .before .before .before .before .before .before .before .before .before .before .args .queue .now) (c .before .before .before .before .before .before .before .before .before .before .args .annex .now) (c .before .before .before .before .before .before .before .before .before .before .args .hash) _ _ (c .before .before .before .before .before .before .before .before .before .before .pre .0) _ (c .before .before .before .before .before .before .before .before .before .before .pre .2) _ _ (c .before .before .before .exchange .ensures) (c .if3 .left)
+returns-4 c =
+    let a = c .before .before .before .before .before .before .before .before .before .before .args in
+    let exchange = c .before .before .before .exchange .ensures in
+    renew-none (plain (a .self)) (a .main .now) (a .queue .now) (a .annex .now) (a .hash) _ _ (c .before .before .before .before .before .before .before .before .before .before .pre .0) _ (c .before .before .before .before .before .before .before .before .before .before .pre .2) _ _ exchange (c .if3 .left)
 
 pub renew-void-spec : {M : Type 1} → statement M
 renew-void-spec =

@@ -17,7 +17,9 @@ same-length-3 : tie.Need-same-length-3
 same-length-3 c = search needs
 
 returns : tie.Need-returns
-returns c = restarted _ _ _ _ _ _ _ _ _ _ _ _ (c .before .before .before .before .before .before .before .before .start .ensures) (c .if1 .taken)
+returns c =
+    let start = c .before .before .before .before .before .before .before .before .start .ensures in
+    restarted _ _ _ _ _ _ _ _ _ _ _ _ start (c .if1 .taken)
 
 same-length-4 : tie.Need-same-length-4
 same-length-4 c = search needs
@@ -29,7 +31,9 @@ same-length-6 : tie.Need-same-length-6
 same-length-6 c = search needs
 
 returns-2 : tie.Need-returns-2
-returns-2 c = restart-refused _ _ _ _ _ _ _ _ _ _ _ _ (c .before .before .before .before .before .before .before .before .start .ensures) (c .if1 .left)
+returns-2 c =
+    let start = c .before .before .before .before .before .before .before .before .start .ensures in
+    restart-refused _ _ _ _ _ _ _ _ _ _ _ _ start (c .if1 .left)
 
 pub restart-spec : {M : Type 1} → statement M
 restart-spec =

@@ -21,16 +21,25 @@ same-length-3 : tie.Need-same-length-3
 same-length-3 c = search needs
 
 returns : tie.Need-returns
-returns c = settle-refused (plain (c .before .before .before .before .before .before .before .before .args .self)) (c .before .before .before .before .before .before .before .before .args .main .now) (c .before .before .before .before .before .before .before .before .args .queue .now) (c .before .before .before .before .before .before .before .before .args .annex .now) _ (c .before .audit .ensures) (c .if1 .taken)
+returns c =
+    let a = c .before .before .before .before .before .before .before .before .args in
+    settle-refused (plain (a .self)) (a .main .now) (a .queue .now) (a .annex .now) _ (c .before .audit .ensures) (c .if1 .taken)
 
 width-requires : tie.Need-width-requires
-width-requires c κs = audit-good (plain (c .before .before .before .before .before .before .before .before .args .self)) (c .before .before .before .before .before .before .before .before .args .main .now) (c .before .before .before .before .before .before .before .before .args .queue .now) (c .before .before .before .before .before .before .before .before .args .annex .now) (sym (c .before .audit .ensures) ∙ c .if1 .left) .record-right
+width-requires c κs =
+    let a = c .before .before .before .before .before .before .before .before .args in
+    audit-good (plain (a .self)) (a .main .now) (a .queue .now) (a .annex .now) (sym (c .before .audit .ensures) ∙ c .if1 .left) .record-right
 
 cast-queued : tie.Need-cast-queued
 cast-queued c = search needs
 
 settle-requires : tie.Need-settle-requires
-settle-requires c κs = ready (plain (c .before .before .before .before .before .before .before .before .before .before .before .before .before .before .args .self)) (c .before .before .before .before .before .before .before .before .before .before .before .before .before .before .args .main .now) (c .before .before .before .before .before .before .before .before .before .before .before .before .before .before .args .queue .now) (c .before .before .before .before .before .before .before .before .before .before .before .before .before .before .args .annex .now) (sym (c .before .before .before .before .before .before .if1 .left) ∙ c .before .before .before .before .before .before .before .audit .ensures) _ (c .before .before .before .before .before .width .ensures .0)
+settle-requires c κs =
+    let a = c .before .before .before .before .before .before .before .before .before .before .before .before .before .before .args in
+    let audit = c .before .before .before .before .before .before .before .audit .ensures in
+    let if1 = c .before .before .before .before .before .before .if1 in
+    let width = c .before .before .before .before .before .width .ensures in
+    ready (plain (a .self)) (a .main .now) (a .queue .now) (a .annex .now) (sym (if1 .left) ∙ audit) _ (width .0)
 
 same-length-4 : tie.Need-same-length-4
 same-length-4 c = search needs
@@ -43,7 +52,13 @@ same-length-6 c = search needs
 
 returns-2 : tie.Need-returns-2
 unfolding change
-returns-2 c = settle-done (plain (c .before .before .before .before .before .before .before .before .before .before .before .before .before .before .before .before .before .before .before .before .args .self)) (c .before .before .before .before .before .before .before .before .before .before .before .before .before .before .before .before .before .before .before .before .args .main .now) (c .before .before .before .before .before .before .before .before .before .before .before .before .before .before .before .before .before .before .before .before .args .queue .now) (c .before .before .before .before .before .before .before .before .before .before .before .before .before .before .before .before .before .before .before .before .args .annex .now) (sym (c .before .before .before .before .before .before .before .before .before .before .before .before .if1 .left) ∙ c .before .before .before .before .before .before .before .before .before .before .before .before .before .audit .ensures) _ _ _ _ (c .before .before .before .before .before .settle .ensures (plain (c .before .before .before .before .before .before .before .before .before .before .before .before .before .before .before .before .before .before .before .before .args .self)) (numbers (plain (c .before .before .before .before .before .before .before .before .before .before .before .before .before .before .before .before .before .before .before .before .args .self)) (c .before .before .before .before .before .before .before .before .before .before .before .before .before .before .before .before .before .before .before .before .args .main .now) (c .before .before .before .before .before .before .before .before .before .before .before .before .before .before .before .before .before .before .before .before .args .queue .now) (c .before .before .before .before .before .before .before .before .before .before .before .before .before .before .before .before .before .before .before .before .args .annex .now) _ (c .before .before .before .before .before .before .before .before .before .before .before .width .ensures .0)))
+returns-2 c =
+    let a = c .before .before .before .before .before .before .before .before .before .before .before .before .before .before .before .before .before .before .before .before .args in
+    let audit = c .before .before .before .before .before .before .before .before .before .before .before .before .before .audit .ensures in
+    let if1 = c .before .before .before .before .before .before .before .before .before .before .before .before .if1 in
+    let width = c .before .before .before .before .before .before .before .before .before .before .before .width .ensures in
+    let settle = c .before .before .before .before .before .settle .ensures in
+    settle-done (plain (a .self)) (a .main .now) (a .queue .now) (a .annex .now) (sym (if1 .left) ∙ audit) _ _ _ _ (settle (plain (a .self)) (numbers (plain (a .self)) (a .main .now) (a .queue .now) (a .annex .now) _ (width .0)))
 
 pub settle-spec : {M : Type 1} → statement M
 settle-spec =
