@@ -1,13 +1,11 @@
 // Replays a script of calls on a filter and prints what each call leaves: its number, the record and the digests of the words.
-mod input;
-mod output;
-
 ghost use mathlib.Core.Path.{_≡_};
 ghost use Prim.Native.Nat.{_≤_};
 ghost use lib.ListN.{length, take};
 use filter::Answer;
 use filter::Record;
-use input::Source;
+use script::input::Source;
+use script::output;
 
 // The input, the record, and how many words of each memory are lent.
 struct Session {

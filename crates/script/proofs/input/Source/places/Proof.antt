@@ -3,8 +3,8 @@ use mathlib.Core.Path.{_≡_}
 use Prim.Native.Nat.{_≤_, _-_}
 use borrow.Author.Needs.{needs}
 use lib.ListN.{length}
-use Rattle.replay.proofs.input.Source.places.Statement.{statement}
-use Rattle.replay.proofs.input.Source.places.Tie as tie
+use Rattle.script.proofs.input.Source.places.Statement.{statement}
+use Rattle.script.proofs.input.Source.places.Tie as tie
 
 abbrev Inv-loop : tie.InvT-loop
 Inv-loop buf₀ dir₀ rest₀ i₀ buf dir rest i = (i ≤ 15) × (length buf ≡ length buf₀)

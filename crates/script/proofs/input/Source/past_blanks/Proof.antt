@@ -2,8 +2,8 @@
 use mathlib.Core.Path.{_≡_}
 use borrow.Author.Needs.{needs}
 use lib.ListN.{length}
-use Rattle.replay.proofs.input.Source.past_blanks.Statement.{statement}
-use Rattle.replay.proofs.input.Source.past_blanks.Tie as tie
+use Rattle.script.proofs.input.Source.past_blanks.Statement.{statement}
+use Rattle.script.proofs.input.Source.past_blanks.Tie as tie
 
 abbrev Inv-loop : tie.InvT-loop
 Inv-loop buf₀ b₀ left₀ buf b left = length buf ≡ length buf₀

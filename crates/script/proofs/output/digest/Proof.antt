@@ -2,8 +2,8 @@
 use Prim.Native.Nat.{_≤_, _<_, _-_}
 use borrow.Author.Needs.{needs}
 use lib.ListN.{length}
-use Rattle.replay.proofs.output.digest.Statement.{statement}
-use Rattle.replay.proofs.output.digest.Tie as tie
+use Rattle.script.proofs.output.digest.Statement.{statement}
+use Rattle.script.proofs.output.digest.Tie as tie
 
 abbrev Inv-loop : tie.InvT-loop
 Inv-loop words d₀ i₀ d i = (i ≤ length words) × (d < 4294967296)

@@ -1,8 +1,8 @@
 -- The index stays within the fifteen places.
 use Prim.Native.Nat.{_≤_, _-_}
 use borrow.Author.Needs.{needs}
-use Rattle.replay.proofs.output.places.Statement.{statement}
-use Rattle.replay.proofs.output.places.Tie as tie
+use Rattle.script.proofs.output.places.Statement.{statement}
+use Rattle.script.proofs.output.places.Tie as tie
 
 abbrev Inv-loop : tie.InvT-loop
 Inv-loop dir i₀ i = i ≤ 15

@@ -1,8 +1,8 @@
 -- The digest stays below 2^32, and the index within the fifteen places.
 use Prim.Native.Nat.{_≤_, _<_, _-_}
 use borrow.Author.Needs.{needs}
-use Rattle.replay.proofs.output.digest_places.Statement.{statement}
-use Rattle.replay.proofs.output.digest_places.Tie as tie
+use Rattle.script.proofs.output.digest_places.Statement.{statement}
+use Rattle.script.proofs.output.digest_places.Tie as tie
 
 abbrev Inv-loop : tie.InvT-loop
 Inv-loop dir d₀ i₀ d i = (i ≤ 15) × (d < 4294967296)

@@ -2,8 +2,8 @@
 use mathlib.Core.Path.{_≡_}
 use borrow.Author.Needs.{needs}
 use lib.ListN.{length}
-use Rattle.replay.proofs.input.Source.number.Statement.{statement}
-use Rattle.replay.proofs.input.Source.number.Tie as tie
+use Rattle.script.proofs.input.Source.number.Statement.{statement}
+use Rattle.script.proofs.input.Source.number.Tie as tie
 
 abbrev Inv-loop : tie.InvT-loop
 Inv-loop buf₀ b₀ right₀ value₀ left₀ buf b right value left = length buf ≡ length buf₀

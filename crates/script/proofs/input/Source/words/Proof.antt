@@ -3,8 +3,8 @@ use mathlib.Core.Path.{_≡_}
 use Prim.Native.Nat.{_≤_, _-_}
 use borrow.Author.Needs.{needs}
 use lib.ListN.{length}
-use Rattle.replay.proofs.input.Source.words.Statement.{statement}
-use Rattle.replay.proofs.input.Source.words.Tie as tie
+use Rattle.script.proofs.input.Source.words.Statement.{statement}
+use Rattle.script.proofs.input.Source.words.Tie as tie
 
 abbrev Inv-loop : tie.InvT-loop
 Inv-loop buf₀ memory₀ v rest₀ i₀ buf memory rest i = (i ≤ v) × (v ≤ length memory₀) × (length memory ≡ length memory₀) × (length buf ≡ length buf₀)

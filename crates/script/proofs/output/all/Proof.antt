@@ -2,8 +2,8 @@
 use Prim.Native.Nat.{_≤_, _-_}
 use borrow.Author.Needs.{needs}
 use lib.ListN.{length}
-use Rattle.replay.proofs.output.all.Statement.{statement}
-use Rattle.replay.proofs.output.all.Tie as tie
+use Rattle.script.proofs.output.all.Statement.{statement}
+use Rattle.script.proofs.output.all.Tie as tie
 
 abbrev Inv-loop : tie.InvT-loop
 Inv-loop words i₀ i = i ≤ length words
