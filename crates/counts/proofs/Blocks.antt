@@ -2,7 +2,7 @@
 use mathlib.Core.Path.{_≡_, refl, sym, ap, ap₂, _∙_}
 use mathlib.Core.Bool.{Bool, true, false, _&&_}
 use mathlib.Core.List.{List, []}
-use Prim.Native.Nat.{ℕ, suc, _+_, _-_, _*_, _%_, _≤_, _<_}
+use Prim.Native.Nat.{ℕ, suc, _+_, _-_, _*_, _≤_, _<_}
 use native.Mathlib.Omega.{arith}
 use native.Mathlib.Nat.{mod-eq-of-lt}
 use native.Mathlib.Numerals.{add-one}
@@ -11,19 +11,17 @@ use lib.Dec.{eqb}
 use lib.ListN.{length, drop, getD}
 use lib.Seq.{drop-cons}
 use Rattle.lists.specs.Lists.{every, mapAt}
-use Rattle.lists.specs.Runs.{Runs, count, total}
+use Rattle.lists.specs.Runs.{Runs, count}
 use Rattle.lists.proofs.Tests.{no-true}
 use Rattle.slots.specs.Payload.{tombstone, void}
 use Rattle.layout.specs.Decode.{decode, placeOf}
 use Rattle.layout.specs.Document.{carry}
-use Rattle.layout.proofs.Same.{place-of, carry-next}
-use Rattle.layout.proofs.Puts.{layout-length, run-room}
 use Rattle.rules.specs.Tables.{Table, mothersOf}
 use Rattle.rules.specs.Sound.{naming, addressRight}
 use Rattle.sound.specs.Reading.{Laid, readAt}
-use Rattle.counts.specs.Tally.{blockSize, Tallied, Stored}
+use Rattle.tallies.specs.Tally.{blockSize, Tallied, Stored}
 use Rattle.counts.specs.Blocks.{rightFrom, Block}
-use Rattle.sound.proofs.Readings.{run-read}
+use Rattle.tallies.proofs.Carries.{same-size, in-runs, carry-is, carry-small, read-is, carry-on}
 
 -- k entries wait on arrival at address c of the table, if it has that address
 abbrev pub Waits : List ℕ → ℕ → ℕ → Type 0
@@ -38,43 +36,16 @@ pub stand-carry : (f : ℕ → List ℕ → Bool) (words : List ℕ) (from c k :
 stand-carry f words from c k s h = s .here h
 
 module _ (words : List ℕ) (p : Laid words) where
-  pub same-size : length (decode words) ≡ length words
-  same-size = sym (layout-length (decode words)) ∙ ap length (sym (p .is))
-
-  pub small : total (decode words) < length (decode words)
-  small = omega (arith, p .small, same-size)
-
-  module _ (c k : ℕ) (hc : c < length words) where
-    in-runs : c < length (decode words)
-    in-runs = omega (arith, same-size)
-
-    pub carry-is : k ≡ placeOf words c → k ≡ carry (decode words) c
-    carry-is e = e ∙ ap (λ (l : List ℕ). placeOf l c) (p .is) ∙ place-of (decode words) c in-runs small
-
-    module _ (ek : k ≡ carry (decode words) c) where
-      pub carry-small : k < length words
-      carry-small = omega (arith, p .small, run-room (decode words) c in-runs small)
-
-      pub read-is : readAt words c k ≡ getD (decode words) c []
-      read-is = ap (λ (l : List ℕ). readAt l c k) (p .is) ∙ run-read (decode words) c in-runs small k ek
-
-      -- with the run read here, the carry of the next slot, in a circle
-      pub carry-on : (k′ : ℕ) → k′ ≡ k + length (readAt words c k) - 1 → k′ ≡ carry (decode words) (suc c % length words)
-      carry-on k′ e =
-          let runs = decode words in
-          let m : c % length runs ≡ c = mod-eq-of-lt in-runs in
-          e ∙ ap₂ (λ (a : ℕ) (r : List ℕ). a + length r - 1) ek read-is
-          ∙ sym (carry-next runs c small ∙ ap (λ (j : ℕ). carry runs j + length (getD runs j []) - 1) m) ∙ ap (λ (n : ℕ). carry runs (suc c % n)) same-size
-
-      -- the code's test of the address
-      test-is : (w : ℕ) (ts : List Table) (ws : List ℕ) (good : Bool) (named even mothers : ℕ) → named ≡ naming c ws → even ≡ count (c * 2) ws → mothers ≡ mothersOf c ts
-          → good ≡ (eqb (count (tombstone w) (readAt words c k)) even && eqb (count (void w) (readAt words c k)) (mothers - named))
-          → good ≡ addressRight w ts ws c (getD (decode words) c [])
-      unfolding addressRight
-      test-is w ts ws good named even mothers en ee em eg =
-          let r = getD (decode words) c [] in
-          eg ∙ ap (λ (b : List ℕ). eqb (count (tombstone w) b) even && eqb (count (void w) b) (mothers - named)) read-is
-          ∙ ap₂ (λ (x y : ℕ). eqb (count (tombstone w) r) x && eqb (count (void w) r) y) ee (ap₂ (λ (x y : ℕ). x - y) em en)
+  module _ (c k : ℕ) (hc : c < length words) (ek : k ≡ carry (decode words) c) where
+    -- the code's test of the address
+    test-is : (w : ℕ) (ts : List Table) (ws : List ℕ) (good : Bool) (named even mothers : ℕ) → named ≡ naming c ws → even ≡ count (c * 2) ws → mothers ≡ mothersOf c ts
+        → good ≡ (eqb (count (tombstone w) (readAt words c k)) even && eqb (count (void w) (readAt words c k)) (mothers - named))
+        → good ≡ addressRight w ts ws c (getD (decode words) c [])
+    unfolding addressRight
+    test-is w ts ws good named even mothers en ee em eg =
+        let r = getD (decode words) c [] in
+        eg ∙ ap (λ (b : List ℕ). eqb (count (tombstone w) b) even && eqb (count (void w) b) (mothers - named)) (read-is words p c k hc ek)
+        ∙ ap₂ (λ (x y : ℕ). eqb (count (tombstone w) r) x && eqb (count (void w) r) y) ee (ap₂ (λ (x y : ℕ). x - y) em en)
 
   module _ (f : ℕ → List ℕ → Bool) where
     one-more : (c : ℕ) (good : Bool) → c < length words → good ≡ f c (getD (decode words) c [])
@@ -82,13 +53,13 @@ module _ (words : List ℕ) (p : Laid words) where
     unfolding rightFrom every mapAt
     one-more c good hc g =
         let runs = decode words in
-        ap (λ (l : Runs). every (λ (b : Bool). b) (mapAt f c l)) (drop-cons runs c [] (in-runs c 0 hc))
+        ap (λ (l : Runs). every (λ (b : Bool). b) (mapAt f c l)) (drop-cons runs c [] (in-runs words p c 0 hc))
         ∙ ap₂ (λ (b : Bool) (j : ℕ). b && every (λ (b : Bool). b) (mapAt f j (drop j runs))) (sym g) (sym (add-one c))
 
     right-out : (c : ℕ) → length words ≤ c → rightFrom f c (decode words) ≡ true
     unfolding rightFrom every mapAt
     right-out c h =
-        ap (λ (l : Runs). every (λ (b : Bool). b) (mapAt f c l)) (lib.ListN.drop-of-length-le (decode words) {i = c} (omega (arith, same-size)))
+        ap (λ (l : Runs). every (λ (b : Bool). b) (mapAt f c l)) (lib.ListN.drop-of-length-le (decode words) {i = c} (omega (arith, same-size words p)))
 
 -- ---- the addresses of a block
 

@@ -11,7 +11,7 @@ use Rattle.directory.specs.declared.Place.{Place}
 use Rattle.directory.specs.Places.{placesInUse}
 use Rattle.rules.specs.Tables.{tables}
 use Rattle.rules.specs.Sound.{addressRight}
-use Rattle.counts.specs.Tally.{blockSize}
+use Rattle.tallies.specs.Tally.{blockSize}
 
 -- the test of an address and its run, by the queue words and the annex tables in use
 abbrev pub addressTest : ℕ → List Place → List ℕ → List ℕ → ℕ → List ℕ → Bool

@@ -1,3 +1,2 @@
--- How the audit of the counts works: what it counts of the queue, and from which address it goes on.
-pub mod Tally
+-- How the audit of the counts works: from which address it goes on.
 pub mod Blocks

@@ -6,7 +6,7 @@ use borrow.Author.Needs.{needs}
 use lib.ListN.{length}
 use Rattle.rules.specs.Tables.{Table}
 use Rattle.rules.specs.Sound.{addressRight}
-use Rattle.counts.specs.Tally.{Tallied, Stored}
+use Rattle.tallies.specs.Tally.{Tallied, Stored}
 use Rattle.counts.proofs.Blocks.{Waits, waits-first, waits-small, waits-next, Stand, stand-start, stand-on, stand-off, stand-end}
 use Rattle.counts.proofs.addresses_right.Statement.{statement}
 use Rattle.counts.proofs.addresses_right.Tie as tie

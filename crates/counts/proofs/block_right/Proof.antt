@@ -1,8 +1,8 @@
 -- The counters are filled from the queue and from the annex, and then compared with the runs.
 use mathlib.Core.Path.{refl}
 use borrow.Author.Needs.{needs}
-use Rattle.counts.specs.Tally.{blockSize}
-use Rattle.counts.proofs.Tallies.{tallied-none, none-raised}
+use Rattle.tallies.specs.Tally.{blockSize}
+use Rattle.tallies.proofs.Tallies.{tallied-none, none-raised}
 use Rattle.counts.proofs.block_right.Statement.{statement}
 use Rattle.counts.proofs.block_right.Tie as tie
 

@@ -3,7 +3,7 @@ use Prim.Native.Nat.{_+_, _%_, _≤_, _-_}
 use mathlib.Core.Path.{_≡_}
 use native.Mathlib.Omega.{arith}
 use borrow.Author.Needs.{needs}
-use Rattle.counts.specs.Tally.{blockSize}
+use Rattle.tallies.specs.Tally.{blockSize}
 use Rattle.counts.specs.Blocks.{addressTest}
 use Rattle.counts.proofs.Blocks.{Stand, stand-carry, blocks-start, blocks-on, blocks-off, blocks-end}
 use Rattle.counts.proofs.counts_right.Statement.{statement}

@@ -5,10 +5,10 @@ use mathlib.Core.Path.{_≡_, sym, _∙_}
 use native.Mathlib.Omega.{arith}
 use borrow.Author.Needs.{needs}
 use lib.ListN.{length, take}
-use Rattle.counts.specs.Tally.{Tallied}
-use Rattle.counts.proofs.Tallies.{named-le, even-le, tallied-on, tallied-past}
-use Rattle.counts.proofs.tally_words.Statement.{statement}
-use Rattle.counts.proofs.tally_words.Tie as tie
+use Rattle.tallies.specs.Tally.{Tallied}
+use Rattle.tallies.proofs.Tallies.{named-le, even-le, tallied-on, tallied-past}
+use Rattle.tallies.proofs.tally_words.Statement.{statement}
+use Rattle.tallies.proofs.tally_words.Tie as tie
 
 abbrev Inv-loop : tie.InvT-loop
 Inv-loop queue from to base names₀ evens₀ block q₀ names evens q = (from ≤ q) × (q ≤ to) × Tallied base (take q queue) names evens

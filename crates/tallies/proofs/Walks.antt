@@ -20,9 +20,9 @@ use Rattle.layout.specs.Moves.{wrap}
 use Rattle.rules.specs.Tables.{hashEntry, matching}
 use Rattle.annex.specs.Stored.{tableOf}
 use Rattle.sound.specs.Reading.{Laid, Read, readAt}
-use Rattle.counts.specs.Tally.{Raised, AtMost}
-use Rattle.counts.proofs.Stored.{count-le}
-use Rattle.counts.proofs.Blocks.{carry-is, carry-small, carry-on, read-is}
+use Rattle.tallies.specs.Tally.{Raised, AtMost}
+use Rattle.tallies.proofs.Sums.{count-le}
+use Rattle.tallies.proofs.Carries.{carry-is, carry-small, carry-on, read-is}
 
 -- ---- the payload stays the same up to the end of the table
 

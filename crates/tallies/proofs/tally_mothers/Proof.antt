@@ -4,10 +4,10 @@ use mathlib.Core.Path.{_≡_}
 use native.Mathlib.Omega.{arith}
 use borrow.Author.Needs.{needs}
 use lib.ListN.{length}
-use Rattle.counts.proofs.InUse.{Walk, walk-start, walk-least, walk-below, walk-most, walk-power, walk-room, walk-size, walk-on}
-use Rattle.counts.proofs.Stored.{Sums, sums-start, sums-stop, sums-end, sums-small, sums-laid, sums-on}
-use Rattle.counts.proofs.tally_mothers.Statement.{statement}
-use Rattle.counts.proofs.tally_mothers.Tie as tie
+use Rattle.tallies.proofs.InUse.{Walk, walk-start, walk-least, walk-below, walk-most, walk-power, walk-room, walk-size, walk-on}
+use Rattle.tallies.proofs.Sums.{Sums, sums-start, sums-stop, sums-end, sums-small, sums-laid, sums-on}
+use Rattle.tallies.proofs.tally_mothers.Statement.{statement}
+use Rattle.tallies.proofs.tally_mothers.Tie as tie
 
 abbrev Inv-loop : tie.InvT-loop
 Inv-loop annex base n mothers₀ places at₀ i₀ mothers at i = (i ≤ 15) × (length places ≡ 15) × Walk places annex i at × Sums places annex base n i at mothers

@@ -3,10 +3,10 @@ use Prim.Native.Nat.{_+_, _≤_, _-_}
 use native.Mathlib.Omega.{arith}
 use borrow.Author.Needs.{needs}
 use lib.ListN.{length, take}
-use Rattle.counts.specs.Tally.{Tallied}
-use Rattle.counts.proofs.Tallies.{tallied-skip, tallied-all}
-use Rattle.counts.proofs.tally_block.Statement.{statement}
-use Rattle.counts.proofs.tally_block.Tie as tie
+use Rattle.tallies.specs.Tally.{Tallied}
+use Rattle.tallies.proofs.Tallies.{tallied-skip, tallied-all}
+use Rattle.tallies.proofs.tally_block.Statement.{statement}
+use Rattle.tallies.proofs.tally_block.Tie as tie
 
 abbrev Inv-loop : tie.InvT-loop
 Inv-loop queue base names₀ evens₀ n q₀ names evens q = (q ≤ n) × Tallied base (take q queue) names evens

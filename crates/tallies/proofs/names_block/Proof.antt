@@ -4,10 +4,10 @@ use mathlib.Core.Path.{_≡_}
 use mathlib.Core.Bool.{false}
 use native.Mathlib.Omega.{arith}
 use borrow.Author.Needs.{needs}
-use Rattle.counts.specs.Tally.{Others}
-use Rattle.counts.proofs.Tallies.{others-on}
-use Rattle.counts.proofs.names_block.Statement.{statement}
-use Rattle.counts.proofs.names_block.Tie as tie
+use Rattle.tallies.specs.Tally.{Others}
+use Rattle.tallies.proofs.Tallies.{others-on}
+use Rattle.tallies.proofs.names_block.Statement.{statement}
+use Rattle.tallies.proofs.names_block.Tie as tie
 
 abbrev Inv-loop : tie.InvT-loop
 Inv-loop queue from to base block any₀ q₀ any q = (q ≤ to) × (any ≡ false → Others base queue from q)

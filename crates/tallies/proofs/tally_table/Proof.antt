@@ -7,11 +7,11 @@ use lib.ListN.{length}
 use Rattle.rules.specs.Tables.{matching}
 use Rattle.annex.specs.Stored.{tableOf}
 use Rattle.sound.specs.Reading.{readAt}
-use Rattle.counts.specs.Tally.{Raised}
-use Rattle.counts.proofs.Stored.{room-20, room-1}
-use Rattle.counts.proofs.Walks.{Reached, reached-first, reached-in, reached-small, reached-count, reached-anew, reached-next, few-found, raised-none, raised-in, raised-small, raised-one}
-use Rattle.counts.proofs.tally_table.Statement.{statement}
-use Rattle.counts.proofs.tally_table.Tie as tie
+use Rattle.tallies.specs.Tally.{Raised}
+use Rattle.tallies.proofs.Sums.{room-20, room-1}
+use Rattle.tallies.proofs.Walks.{Reached, reached-first, reached-in, reached-small, reached-count, reached-anew, reached-next, few-found, raised-none, raised-in, raised-small, raised-one}
+use Rattle.tallies.proofs.tally_table.Statement.{statement}
+use Rattle.tallies.proofs.tally_table.Tie as tie
 
 abbrev Inv-loop : tie.InvT-loop
 Inv-loop part b s base n mothers₀ size a₀ p₀ k₀ i₀ mothers a p k i =

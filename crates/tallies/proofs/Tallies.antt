@@ -14,8 +14,8 @@ use Rattle.lists.specs.Runs.{count}
 use Rattle.lists.proofs.Tests.{no-true, is, is-yes, is-no}
 use Rattle.lists.proofs.RunLaws.{count-append}
 use Rattle.rules.specs.Sound.{naming}
-use Rattle.counts.specs.Tally.{blockSize, Tallied, Others, AtMost}
-use Rattle.counts.proofs.Stored.{count-le}
+use Rattle.tallies.specs.Tally.{blockSize, Tallied, Others, AtMost}
+use Rattle.tallies.proofs.Sums.{count-le}
 
 naming-append : (c : ℕ) (a b : List ℕ) → naming c (a ++ b) ≡ naming c a + naming c b
 unfolding count naming

@@ -21,9 +21,9 @@ use Rattle.rules.specs.Sound.{tableRight, annexEntry, annexRight}
 use Rattle.annex.specs.Stored.{tableOf}
 use Rattle.sound.specs.Reading.{Laid}
 use Rattle.sound.proofs.Tables.{right-laid}
-use Rattle.counts.specs.Tally.{blockSize, AtMost, Raised, Stored}
-use Rattle.counts.proofs.InUse.{Walk, none-left, not-taken, next-taken, part-is, rest-is, walk-below, walk-most, walk-size, walk-few}
-use Rattle.counts.proofs.Blocks.{same-size, small}
+use Rattle.tallies.specs.Tally.{blockSize, AtMost, Raised, Stored}
+use Rattle.tallies.proofs.InUse.{Walk, none-left, not-taken, next-taken, part-is, rest-is, walk-below, walk-most, walk-size, walk-few}
+use Rattle.tallies.proofs.Carries.{same-size, small}
 
 bit-le : (b : Bool) → bit b ≤ 1
 bit-le true = omega arith
