@@ -23,7 +23,7 @@ use Rattle.sound.specs.Spans.{allowed}
 use Rattle.sound.proofs.Tables.{right-laid}
 use Rattle.sound.specs.Reading.{Laid}
 use Rattle.counts.specs.Blocks.{addressTest, rightFrom}
-use Rattle.counts.proofs.InUse.{Walk, none-left, not-taken, next-taken, part-is, rest-is}
+use Rattle.tallies.proofs.InUse.{Walk, none-left, not-taken, next-taken, part-is, rest-is}
 use Rattle.audit.specs.Queue.{addressesBelow}
 
 -- ---- the queue

@@ -6,7 +6,7 @@ use borrow.Author.Needs.{needs}
 use lib.ListN.{length, drop}
 use Rattle.directory.specs.Places.{placesInUse}
 use Rattle.rules.specs.Sound.{annexRight}
-use Rattle.counts.proofs.InUse.{Walk, walk-start, walk-least, walk-below, walk-most, walk-power, walk-room, walk-size, walk-few, walk-on}
+use Rattle.tallies.proofs.InUse.{Walk, walk-start, walk-least, walk-below, walk-most, walk-power, walk-room, walk-size, walk-few, walk-on}
 use Rattle.audit.proofs.Wholes.{annex-stop, annex-end, annex-on, annex-off}
 use Rattle.audit.proofs.annex_right.Statement.{statement}
 use Rattle.audit.proofs.annex_right.Tie as tie

@@ -3,8 +3,8 @@ use mathlib.Core.Path.{_≡_, refl, sym, _∙_}
 use lib.ListN.{take}
 use lib.Seq.{length-take-le}
 use borrow.Author.Needs.{needs}
-use Rattle.counts.proofs.InUse.{directory-20}
-use Rattle.counts.proofs.Stored.{power-20, room-1}
+use Rattle.tallies.proofs.InUse.{directory-20}
+use Rattle.tallies.proofs.Sums.{power-20, room-1}
 use Rattle.audit.specs.Queue.{addressesBelow}
 use Rattle.audit.proofs.Wholes.{below-limit, part-small, so-laid, so-stored, no-table, no-annex, no-queue, all-counts}
 use Rattle.audit.proofs.state_right.Statement.{statement}

@@ -1,5 +1,5 @@
 -- A right table of the spans is one of the test that they stand for.
-use Rattle.counts.proofs.Stored.{room-1, room-20}
+use Rattle.tallies.proofs.Sums.{room-1, room-20}
 use Rattle.audit.proofs.Wholes.{one-table}
 use borrow.Author.Needs.{needs}
 use Rattle.audit.proofs.table_right.Statement.{statement}
