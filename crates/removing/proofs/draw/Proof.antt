@@ -54,10 +54,10 @@ same-length c = search needs
 
 returns : tie.Need-returns Inv-loop μ-loop
 returns c =
-    let a = c .before .before .before .before .before .before .before .before .args in
+    let s = c .before .before .before .before .before .before .before .before in
     let l = c .before .before .before .before .loop in
-    let ej = wrap-next _ (a .c) (l .k) (l .i) _ (search needs) (search needs) (l .inv .4) (c .before .before .after .ensures .0) in
-    draw-stop (l .ws) (a .c) (l .q) (l .k) _ (l .i) (search needs) (search needs) (search needs) (l .inv .4) _ (search needs) ej (c .if1 .taken) ∙ l .inv .6
+    let ej = wrap-next _ (s .args .c) (l .k) (l .i) _ (s .pre .0) (l .inv .0) (l .inv .4) (c .before .before .after .ensures .0) in
+    draw-stop (l .ws) (s .args .c) (l .q) (l .k) _ (l .i) (s .pre .0) (l .inv .0) (l .inv .1) (l .inv .4) _ (c .before .before .before .loop-test .taken) ej (c .if1 .taken) ∙ l .inv .6
 
 closer-word-requires : tie.Need-closer-word-requires Inv-loop μ-loop
 closer-word-requires c κs = search needs
@@ -79,18 +79,20 @@ loop-less c = search needs
 
 loop-again : tie.Need-loop-again Inv-loop μ-loop
 loop-again c =
-    let a = c .before .before .before .before .before .before .before .before .before .before .args in
+    let s = c .before .before .before .before .before .before .before .before .before .before in
     let l = c .before .before .before .before .before .before .loop in
-    let j = c .before .before .before .before .after .result in
+    let more = c .before .before .before .before .before .loop-test .taken in
+    let next = c .before .before .before .before .after in
+    let j = next .result in
     let v = getD (l .ws) j 0 in
-    let ej = wrap-next _ (a .c) (l .k) (l .i) j (search needs) (search needs) (l .inv .4) (c .before .before .before .before .after .ensures .0) in (
-      search needs,
-      simp length-set (search needs),
+    let ej = wrap-next _ (s .args .c) (l .k) (l .i) j (s .pre .0) (l .inv .0) (l .inv .4) (next .ensures .0) in (
+      more,
+      length-set (l .ws) (l .i) (c .before .closer-word .result) ∙ l .inv .1,
       omega arith,
-      search needs,
+      next .ensures .1,
       ej,
-      sym (getD-set-other (l .ws) (l .i) j (c .before .closer-word .result) 0 (wrap-other _ (l .i) j (search needs) (search needs) (c .before .before .before .before .after .ensures .0))),
-      draw-on (l .ws) (a .c) (l .q) (l .k) _ (l .i) (search needs) (search needs) (search needs) (l .inv .4) j (search needs) ej (c .before .before .if1 .left) _ _
+      sym (getD-set-other (l .ws) (l .i) j (c .before .closer-word .result) 0 (wrap-other _ (l .i) j (l .inv .3) (omega arith) (next .ensures .0))),
+      draw-on (l .ws) (s .args .c) (l .q) (l .k) _ (l .i) (s .pre .0) (l .inv .0) (l .inv .1) (l .inv .4) j more ej (c .before .before .if1 .left) _ _
           (c .before .closer-word .ensures ∙ ap (closer (entry v) (l .q)) (l .inv .5))
           (c .still-waiting .ensures .0 ∙ ap (λ (w : ℕ). l .q + w % 2 - isStart (entry v)) (l .inv .5))
           ∙ l .inv .6,
@@ -107,8 +109,9 @@ same-length-2 c = search needs
 
 returns-2 : tie.Need-returns-2 Inv-loop μ-loop
 returns-2 c =
+    let s = c .before .before .before .before .before in
     let l = c .before .loop in
-    draw-last (l .ws) _ (l .q) (l .k) _ (l .i) (search needs) (search needs) (search needs) (l .inv .4) (omega arith) ∙ l .inv .6
+    draw-last (l .ws) (s .args .c) (l .q) (l .k) _ (l .i) (s .pre .0) (l .inv .0) (l .inv .1) (l .inv .4) (omega arith) ∙ l .inv .6
 
 pub draw-spec : {M : Type 1} → statement M
 draw-spec =
