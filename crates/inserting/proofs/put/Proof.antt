@@ -33,22 +33,27 @@ same-length c = search needs
 
 returns : tie.Need-returns
 returns c =
-    let a = c .before .before .before .before .args in
-    put-home (a .ws .now) (a .c) (search needs) (a .k) (a .u) (a .o) (a .x) (c .before .if1 .taken) (c .if2 .taken)
+    let s = c .before .before .before .before in
+    let a = s .args in
+    put-home (a .ws .now) (a .c) (s .pre .0) (a .k) (a .u) (a .o) (a .x) (c .before .if1 .taken) (c .if2 .taken)
 
 later-requires : tie.Need-later-requires
 later-requires c κs = search needs
 
 shove-requires : tie.Need-shove-requires
-shove-requires c κs = simp length-set (search needs)
+shove-requires c κs =
+    let s = c .before .before .before .before .before .before in
+    let e = c .before .later .ensures in
+    simp length-set (s .pre .0, s .pre .1, omega arith, e .1, e .2)
 
 same-length-2 : tie.Need-same-length-2
 same-length-2 c = c .before .before .shove .kept .0 ∙ length-set (c .before .before .before .before .before .before .before .before .before .args .ws .now) (c .before .before .before .before .before .before .before .before .before .args .c) (c .before .before .before .before .before .before .before .before .before .args .x * 8 + 1)
 
 returns-2 : tie.Need-returns-2
 returns-2 c =
-    let a = c .before .before .before .before .before .before .before .before .before .args in
-    put-push (a .ws .now) (a .c) (search needs) (a .k) (a .u) (a .o) (a .x) _ (c .before .before .before .before .before .before .if1 .taken) (c .before .before .before .before .before .if2 .left)
+    let s = c .before .before .before .before .before .before .before .before .before in
+    let a = s .args in
+    put-push (a .ws .now) (a .c) (s .pre .0) (a .k) (a .u) (a .o) (a .x) _ (c .before .before .before .before .before .before .if1 .taken) (c .before .before .before .before .before .if2 .left)
     (c .before .before .shove .ensures ∙ ap (λ (e : ℕ). going (turn (a .c) (set (a .ws .now) (a .c) (a .x * 8 + 1))) e 1) (c .before .before .before .before .later .ensures .0))
 
 marked-requires : tie.Need-marked-requires
@@ -71,12 +76,15 @@ same-length-3 c = c .before .before .shove2 .kept .0 ∙ length-set (c .before .
 
 returns-3 : tie.Need-returns-3
 returns-3 c =
-    let a = c .before .before .before .before .before .before .before .before .before .before .args in
-    put-new (a .ws .now) (a .c) (search needs) (a .k) (a .u) (a .o) (a .x) (c .before .before .before .before .before .before .before .if1 .left) _ (c .before .before .before .before .before .if3 .taken) (c .before .before .before .before .if4 .taken)
+    let s = c .before .before .before .before .before .before .before .before .before .before in
+    let a = s .args in
+    put-new (a .ws .now) (a .c) (s .pre .0) (a .k) (a .u) (a .o) (a .x) (c .before .before .before .before .before .before .before .if1 .left) _ (c .before .before .before .before .before .if3 .taken) (c .before .before .before .before .if4 .taken)
     (c .before .before .shove2 .ensures ∙ ap (λ (v : ℕ). going (turn (a .c) (set (a .ws .now) (a .c) v)) (a .x * 8) (a .k)) (c .before .before .before .before .before .before .marked .ensures))
 
 around-requires : tie.Need-around-requires
-around-requires c κs = search needs
+around-requires c κs =
+    let s = c .before .before .before .before .before .before in
+    simp length-set (s .pre .0, s .pre .2, s .pre .1)
 
 mul-v : tie.Need-mul-v
 mul-v c = search needs
@@ -88,7 +96,7 @@ mul-moved : tie.Need-mul-moved
 mul-moved c = search needs
 
 moved-requires : tie.Need-moved-requires
-moved-requires c κs = search needs
+moved-requires c κs = (omega arith, omega arith)
 
 mul-ws-4 : tie.Need-mul-ws-4
 mul-ws-4 c = search needs
@@ -103,7 +111,10 @@ add-shove : tie.Need-add-shove
 add-shove c = search needs
 
 shove-requires-3 : tie.Need-shove-requires-3
-shove-requires-3 c κs = simp length-set (search needs)
+shove-requires-3 c κs =
+    let s = c .before .before .before .before .before .before .before .before .before .before .before in
+    let e = c .before .later2 .ensures in
+    simp length-set (s .pre .0, s .pre .1, omega arith, e .1, e .2)
 
 same-length-4 : tie.Need-same-length-4
 same-length-4 c =
@@ -112,10 +123,11 @@ same-length-4 c =
 
 returns-4 : tie.Need-returns-4
 returns-4 c =
-    let a = c .before .before .before .before .before .before .before .before .before .before .before .before .before .before .args in
+    let s = c .before .before .before .before .before .before .before .before .before .before .before .before .before .before in
+    let a = s .args in
     let ws = set (a .ws .now) (a .c) (c .before .before .before .before .before .before .before .before .before .before .marked .result) in
     let n : length ws ≡ length (a .ws .now) = length-set (a .ws .now) (a .c) (c .before .before .before .before .before .before .before .before .before .before .marked .result) in
-    put-head (a .ws .now) (a .c) (search needs) (a .k) (a .u) (a .o) (a .x) (c .before .before .before .before .before .before .before .before .before .before .before .if1 .left) _ ws (length ws) (c .before .before .before .before .before .before .before .around .result)
+    put-head (a .ws .now) (a .c) (s .pre .0) (a .k) (a .u) (a .o) (a .x) (c .before .before .before .before .before .before .before .before .before .before .before .if1 .left) _ ws (length ws) (c .before .before .before .before .before .before .before .around .result)
     (ap (set (a .ws .now) (a .c)) (c .before .before .before .before .before .before .before .before .before .before .marked .ensures)) (sym n) (omega arith) (c .before .before .before .before .before .before .before .around .ensures .0) (c .before .before .before .before .before .before .before .before .before .if3 .taken) (c .before .before .before .before .before .before .before .before .if4 .left)
     (c .before .before .shove3 .ensures ∙ ap₂ (λ (v e : ℕ). going (turn (a .c) (set ws (c .before .before .before .before .before .before .before .around .result) v)) e (a .k + 1)) (c .before .before .before .before .before .moved .ensures) (c .before .before .before .before .later2 .ensures .0))
 
@@ -133,8 +145,9 @@ same-length-5 c = c .before .before .shove4 .kept .0 ∙ length-set (c .before .
 
 returns-5 : tie.Need-returns-5
 returns-5 c =
-    let a = c .before .before .before .before .before .before .before .before .before .args in
-    put-later (a .ws .now) (a .c) (search needs) (a .k) (a .u) (a .o) (a .x) (c .before .before .before .before .before .before .if1 .left) _ (c .before .before .before .before .if3 .left)
+    let s = c .before .before .before .before .before .before .before .before .before in
+    let a = s .args in
+    put-later (a .ws .now) (a .c) (s .pre .0) (a .k) (a .u) (a .o) (a .x) (c .before .before .before .before .before .before .if1 .left) _ (c .before .before .before .before .if3 .left)
     (c .before .before .shove4 .ensures ∙ ap (λ (v : ℕ). going (turn (a .c) (set (a .ws .now) (a .c) v)) (a .x * 8 + 2) (a .k)) (c .before .before .before .before .before .marked .ensures))
 
 pub put-spec : {M : Type 1} → statement M
