@@ -50,8 +50,9 @@ same-length c = search needs
 
 returns-2 : tie.Need-returns-2 Inv-loop μ-loop
 returns-2 c =
+    let s = c .before .before .before .before .before .before .before .before in
     let l = c .before .before .before .before .loop in
-    shove-stop (l .ws) _ (l .k) _ (l .hand) (l .i) _ (search needs) (search needs) (search needs) (search needs) (search needs) (l .inv .5) (c .before .moved .ensures) (c .if2 .taken) ∙ l .inv .6
+    shove-stop (l .ws) (s .args .c) (l .k) _ (l .hand) (l .i) _ (s .pre .0) (c .before .before .before .loop-test .taken) (l .inv .1) (l .inv .2) (l .inv .3) (l .inv .5) (c .before .moved .ensures) (c .if2 .taken) ∙ l .inv .6
 
 stripped-requires : tie.Need-stripped-requires Inv-loop μ-loop
 stripped-requires c κs = search needs
@@ -67,15 +68,16 @@ loop-less c = search needs
 
 loop-again : tie.Need-loop-again Inv-loop μ-loop
 loop-again c =
-    let a = c .before .before .before .before .before .before .before .before .before .before .args in
-    let l = c .before .before .before .before .before .before .loop in (
+    let s = c .before .before .before .before .before .before .before .before .before .before in
+    let l = c .before .before .before .before .before .before .loop in
+    let more = c .before .before .before .before .before .loop-test .taken in (
       omega arith,
-      simp length-set (search needs),
+      length-set (l .ws) (l .i) (c .before .before .before .moved .result) ∙ l .inv .1,
       omega arith,
       omega arith,
-      search needs,
-      wrap-next _ (a .c) (l .k) (l .i) _ (search needs) (search needs) (l .inv .5) (c .after .ensures .0),
-      shove-on (l .ws) (a .c) (l .k) _ (l .hand) (l .i) _ (search needs) (search needs) (search needs) (search needs) (search needs) (l .inv .5) (c .before .before .before .moved .ensures) (c .before .before .if2 .left) _ (c .before .stripped .ensures)
+      c .after .ensures .1,
+      wrap-next _ (s .args .c) (l .k) (l .i) _ (s .pre .0) more (l .inv .5) (c .after .ensures .0),
+      shove-on (l .ws) (s .args .c) (l .k) _ (l .hand) (l .i) _ (s .pre .0) more (l .inv .1) (l .inv .2) (l .inv .3) (l .inv .5) (c .before .before .before .moved .ensures) (c .before .before .if2 .left) _ (c .before .stripped .ensures)
           ∙ l .inv .6,
     )
 
