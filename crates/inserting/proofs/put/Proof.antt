@@ -53,8 +53,11 @@ returns-2 : tie.Need-returns-2
 returns-2 c =
     let s = c .before .before .before .before .before .before .before .before .before in
     let a = s .args in
-    put-push (a .ws .now) (a .c) (s .pre .0) (a .k) (a .u) (a .o) (a .x) _ (c .before .before .before .before .before .before .if1 .taken) (c .before .before .before .before .before .if2 .left)
-    (c .before .before .shove .ensures ∙ ap (λ (e : ℕ). going (turn (a .c) (set (a .ws .now) (a .c) (a .x * 8 + 1))) e 1) (c .before .before .before .before .later .ensures .0))
+    let if1 = c .before .before .before .before .before .before .if1 in
+    let if2 = c .before .before .before .before .before .if2 in
+    let later = c .before .before .before .before .later .ensures in
+    put-push (a .ws .now) (a .c) (s .pre .0) (a .k) (a .u) (a .o) (a .x) _ (if1 .taken) (if2 .left)
+    (c .before .before .shove .ensures ∙ ap (λ (e : ℕ). going (turn (a .c) (set (a .ws .now) (a .c) (a .x * 8 + 1))) e 1) (later .0))
 
 marked-requires : tie.Need-marked-requires
 marked-requires c κs = search needs
@@ -78,8 +81,12 @@ returns-3 : tie.Need-returns-3
 returns-3 c =
     let s = c .before .before .before .before .before .before .before .before .before .before in
     let a = s .args in
-    put-new (a .ws .now) (a .c) (s .pre .0) (a .k) (a .u) (a .o) (a .x) (c .before .before .before .before .before .before .before .if1 .left) _ (c .before .before .before .before .before .if3 .taken) (c .before .before .before .before .if4 .taken)
-    (c .before .before .shove2 .ensures ∙ ap (λ (v : ℕ). going (turn (a .c) (set (a .ws .now) (a .c) v)) (a .x * 8) (a .k)) (c .before .before .before .before .before .before .marked .ensures))
+    let if1 = c .before .before .before .before .before .before .before .if1 in
+    let marked = c .before .before .before .before .before .before .marked .ensures in
+    let if3 = c .before .before .before .before .before .if3 in
+    let if4 = c .before .before .before .before .if4 in
+    put-new (a .ws .now) (a .c) (s .pre .0) (a .k) (a .u) (a .o) (a .x) (if1 .left) _ (if3 .taken) (if4 .taken)
+    (c .before .before .shove2 .ensures ∙ ap (λ (v : ℕ). going (turn (a .c) (set (a .ws .now) (a .c) v)) (a .x * 8) (a .k)) marked)
 
 around-requires : tie.Need-around-requires
 around-requires c κs =
@@ -125,11 +132,18 @@ returns-4 : tie.Need-returns-4
 returns-4 c =
     let s = c .before .before .before .before .before .before .before .before .before .before .before .before .before .before in
     let a = s .args in
+    let if1 = c .before .before .before .before .before .before .before .before .before .before .before .if1 in
+    let marked = c .before .before .before .before .before .before .before .before .before .before .marked .ensures in
+    let if3 = c .before .before .before .before .before .before .before .before .before .if3 in
+    let if4 = c .before .before .before .before .before .before .before .before .if4 in
+    let around = c .before .before .before .before .before .before .before .around .ensures in
+    let moved = c .before .before .before .before .before .moved .ensures in
+    let later2 = c .before .before .before .before .later2 .ensures in
     let ws = set (a .ws .now) (a .c) (c .before .before .before .before .before .before .before .before .before .before .marked .result) in
     let n : length ws ≡ length (a .ws .now) = length-set (a .ws .now) (a .c) (c .before .before .before .before .before .before .before .before .before .before .marked .result) in
-    put-head (a .ws .now) (a .c) (s .pre .0) (a .k) (a .u) (a .o) (a .x) (c .before .before .before .before .before .before .before .before .before .before .before .if1 .left) _ ws (length ws) (c .before .before .before .before .before .before .before .around .result)
-    (ap (set (a .ws .now) (a .c)) (c .before .before .before .before .before .before .before .before .before .before .marked .ensures)) (sym n) (omega arith) (c .before .before .before .before .before .before .before .around .ensures .0) (c .before .before .before .before .before .before .before .before .before .if3 .taken) (c .before .before .before .before .before .before .before .before .if4 .left)
-    (c .before .before .shove3 .ensures ∙ ap₂ (λ (v e : ℕ). going (turn (a .c) (set ws (c .before .before .before .before .before .before .before .around .result) v)) e (a .k + 1)) (c .before .before .before .before .before .moved .ensures) (c .before .before .before .before .later2 .ensures .0))
+    put-head (a .ws .now) (a .c) (s .pre .0) (a .k) (a .u) (a .o) (a .x) (if1 .left) _ ws (length ws) (c .before .before .before .before .before .before .before .around .result)
+    (ap (set (a .ws .now) (a .c)) marked) (sym n) (omega arith) (around .0) (if3 .taken) (if4 .left)
+    (c .before .before .shove3 .ensures ∙ ap₂ (λ (v e : ℕ). going (turn (a .c) (set ws (c .before .before .before .before .before .before .before .around .result) v)) e (a .k + 1)) moved (later2 .0))
 
 mul-shove-2 : tie.Need-mul-shove-2
 mul-shove-2 c = search needs
@@ -147,8 +161,11 @@ returns-5 : tie.Need-returns-5
 returns-5 c =
     let s = c .before .before .before .before .before .before .before .before .before in
     let a = s .args in
-    put-later (a .ws .now) (a .c) (s .pre .0) (a .k) (a .u) (a .o) (a .x) (c .before .before .before .before .before .before .if1 .left) _ (c .before .before .before .before .if3 .left)
-    (c .before .before .shove4 .ensures ∙ ap (λ (v : ℕ). going (turn (a .c) (set (a .ws .now) (a .c) v)) (a .x * 8 + 2) (a .k)) (c .before .before .before .before .before .marked .ensures))
+    let if1 = c .before .before .before .before .before .before .if1 in
+    let marked = c .before .before .before .before .before .marked .ensures in
+    let if3 = c .before .before .before .before .if3 in
+    put-later (a .ws .now) (a .c) (s .pre .0) (a .k) (a .u) (a .o) (a .x) (if1 .left) _ (if3 .left)
+    (c .before .before .shove4 .ensures ∙ ap (λ (v : ℕ). going (turn (a .c) (set (a .ws .now) (a .c) v)) (a .x * 8 + 2) (a .k)) marked)
 
 pub put-spec : {M : Type 1} → statement M
 put-spec =

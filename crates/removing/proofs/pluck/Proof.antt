@@ -51,8 +51,12 @@ same-length-2 c = c .before .before .draw .kept .0 ∙ length-set (c .before .be
 returns-2 : tie.Need-returns-2
 returns-2 c =
     let a = c .before .before .before .before .before .before .before .before .before .before .args in
-    pluck-home (a .ws .now) (a .c) (search needs) (a .k) (a .u) (a .v) _ (length (a .ws .now)) (c .before .before .before .before .before .before .around .result) (c .before .before .before .before .before .before .before .before .if1 .taken) (c .before .before .before .before .before .before .before .if2 .left) refl (omega arith) (c .before .before .before .before .before .before .around .ensures .0)
-    (c .before .before .draw .ensures ∙ ap (λ (w : ℕ). drawing (turn (a .c) (set (a .ws .now) (a .c) w)) 0 1) (c .before .before .before .before .home-word .ensures))
+    let if1 = c .before .before .before .before .before .before .before .before .if1 in
+    let if2 = c .before .before .before .before .before .before .before .if2 in
+    let around = c .before .before .before .before .before .before .around .ensures in
+    let home-word = c .before .before .before .before .home-word .ensures in
+    pluck-home (a .ws .now) (a .c) (search needs) (a .k) (a .u) (a .v) _ (length (a .ws .now)) (c .before .before .before .before .before .before .around .result) (if1 .taken) (if2 .left) refl (omega arith) (around .0)
+    (c .before .before .draw .ensures ∙ ap (λ (w : ℕ). drawing (turn (a .c) (set (a .ws .now) (a .c) w)) 0 1) home-word)
 
 marks-between-requires : tie.Need-marks-between-requires
 marks-between-requires c κs = search needs
@@ -81,8 +85,13 @@ same-length-3 c = c .before .before .draw2 .kept .0 ∙ length-set (c .before .b
 returns-3 : tie.Need-returns-3
 returns-3 c =
     let a = c .before .before .before .before .before .before .before .before .before .before .before .before .args in
-    pluck-away (a .ws .now) (a .c) (search needs) (a .k) (a .u) (a .v) _ (c .before .before .before .before .before .before .before .before .before .before .if1 .left) (c .before .before .before .before .before .before .before .before .marks-between .ensures .0) _ (c .before .before .before .before .before .before .before .if3 .taken) (c .before .before .before .before .before .before .if4 .taken)
-    (c .before .before .draw2 .ensures ∙ ap (λ (w : ℕ). drawing (turn (a .c) (set (a .ws .now) (a .c) w)) (c .before .before .before .before .before .before .before .before .marks-between .result) (a .k)) (c .before .before .before .before .unmarked .ensures))
+    let if1 = c .before .before .before .before .before .before .before .before .before .before .if1 in
+    let marks-between = c .before .before .before .before .before .before .before .before .marks-between .ensures in
+    let if3 = c .before .before .before .before .before .before .before .if3 in
+    let if4 = c .before .before .before .before .before .before .if4 in
+    let unmarked = c .before .before .before .before .unmarked .ensures in
+    pluck-away (a .ws .now) (a .c) (search needs) (a .k) (a .u) (a .v) _ (if1 .left) (marks-between .0) _ (if3 .taken) (if4 .taken)
+    (c .before .before .draw2 .ensures ∙ ap (λ (w : ℕ). drawing (turn (a .c) (set (a .ws .now) (a .c) w)) (c .before .before .before .before .before .before .before .before .marks-between .result) (a .k)) unmarked)
 
 around-requires-2 : tie.Need-around-requires-2
 around-requires-2 c κs = search needs
@@ -132,9 +141,17 @@ same-length-4 c = c .before .before .draw3 .kept .0 ∙ length-set (c .before .b
 returns-4 : tie.Need-returns-4
 returns-4 c =
     let a = c .before .before .before .before .before .before .before .before .before .before .before .before .before .before .before .before .args in
-    pluck-first (a .ws .now) (a .c) (search needs) (a .k) (a .u) (a .v) (c .before .before .before .before .before .before .before .before .before .before .before .before .marks-between .result) (c .before .before .before .before .before .before .before .before .before .before .before .before .before .before .if1 .left) (c .before .before .before .before .before .before .before .before .before .before .before .before .marks-between .ensures .0) _ (length (a .ws .now)) (c .before .before .before .before .before .before .before .before .before .around2 .result) (c .before .before .before .before .before .before .before .before .around3 .result)
-    (c .before .before .before .before .before .before .before .before .before .before .before .if3 .taken) (c .before .before .before .before .before .before .before .before .before .before .if4 .left) refl (search needs) (c .before .before .before .before .before .before .before .before .before .around2 .ensures .0) (c .before .before .before .before .before .before .before .before .around3 .ensures .0)
-    (c .before .before .draw3 .ensures ∙ ap₂ (λ (w b : ℕ). drawing (turn (a .c) (set (a .ws .now) (c .before .before .before .before .before .before .before .before .before .around2 .result) w)) (c .before .before .before .before .before .before .before .before .before .before .before .before .marks-between .result + b) (a .k + 1)) (c .before .before .before .before .before .head-word .ensures) (c .before .before .before .before .mark-of .ensures .0))
+    let if1 = c .before .before .before .before .before .before .before .before .before .before .before .before .before .before .if1 in
+    let marks-between = c .before .before .before .before .before .before .before .before .before .before .before .before .marks-between .ensures in
+    let if3 = c .before .before .before .before .before .before .before .before .before .before .before .if3 in
+    let if4 = c .before .before .before .before .before .before .before .before .before .before .if4 in
+    let around2 = c .before .before .before .before .before .before .before .before .before .around2 .ensures in
+    let around3 = c .before .before .before .before .before .before .before .before .around3 .ensures in
+    let head-word = c .before .before .before .before .before .head-word .ensures in
+    let mark-of = c .before .before .before .before .mark-of .ensures in
+    pluck-first (a .ws .now) (a .c) (search needs) (a .k) (a .u) (a .v) (c .before .before .before .before .before .before .before .before .before .before .before .before .marks-between .result) (if1 .left) (marks-between .0) _ (length (a .ws .now)) (c .before .before .before .before .before .before .before .before .before .around2 .result) (c .before .before .before .before .before .before .before .before .around3 .result)
+    (if3 .taken) (if4 .left) refl (search needs) (around2 .0) (around3 .0)
+    (c .before .before .draw3 .ensures ∙ ap₂ (λ (w b : ℕ). drawing (turn (a .c) (set (a .ws .now) (c .before .before .before .before .before .before .before .before .before .around2 .result) w)) (c .before .before .before .before .before .before .before .before .before .before .before .before .marks-between .result + b) (a .k + 1)) head-word (mark-of .0))
 
 draw-requires-4 : tie.Need-draw-requires-4
 draw-requires-4 c κs = search needs
@@ -145,7 +162,10 @@ same-length-5 c = c .before .before .draw4 .kept .0
 returns-5 : tie.Need-returns-5
 returns-5 c =
     let a = c .before .before .before .before .before .before .before .before .before .args in
-    pluck-later (a .ws .now) (a .c) (search needs) (a .k) (a .u) (a .v) (c .before .before .before .before .before .marks-between .result) (c .before .before .before .before .before .before .before .if1 .left) (c .before .before .before .before .before .marks-between .ensures .0) _ (c .before .before .before .before .if3 .left) (c .before .before .draw4 .ensures)
+    let if1 = c .before .before .before .before .before .before .before .if1 in
+    let marks-between = c .before .before .before .before .before .marks-between .ensures in
+    let if3 = c .before .before .before .before .if3 in
+    pluck-later (a .ws .now) (a .c) (search needs) (a .k) (a .u) (a .v) (c .before .before .before .before .before .marks-between .result) (if1 .left) (marks-between .0) _ (if3 .left) (c .before .before .draw4 .ensures)
 
 pub pluck-spec : {M : Type 1} → statement M
 pluck-spec =
