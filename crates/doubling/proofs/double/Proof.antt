@@ -13,8 +13,9 @@ use Rattle.doubling.proofs.double.Tie as tie
 
 write-second-requires : tie.Need-write-second-requires
 write-second-requires c κs =
-    let a = c .before .before .before .before .args in
-    let f = facts (a .main .now) (a .second .now) (a .annex .now) (a .k) (a .w) (a .v) (a .taken) (a .n) (a .places) (c .before .before .before .before .pre) in
+    let s = c .before .before .before .before in
+    let a = s .args in
+    let f = facts (a .main .now) (a .second .now) (a .annex .now) (a .k) (a .w) (a .v) (a .taken) (a .n) (a .places) (s .pre) in
     (f .main-size, f .second-size, f .second-long, f .narrow, f .w-1, f .w-v, f .v-26, f .rises, f .few)
 
 same-length : tie.Need-same-length
@@ -30,20 +31,23 @@ size-for-requires c κs = search needs
 
 table-words-requires : tie.Need-table-words-requires
 table-words-requires c κs =
-    let a = c .before .before .before .before .before .before .before .before .before .args in
-    let f = facts (a .main .now) (a .second .now) (a .annex .now) (a .k) (a .w) (a .v) (a .taken) (a .n) (a .places) (c .before .before .before .before .before .before .before .before .before .pre) in
+    let s = c .before .before .before .before .before .before .before .before .before in
+    let a = s .args in
+    let f = facts (a .main .now) (a .second .now) (a .annex .now) (a .k) (a .w) (a .v) (a .taken) (a .n) (a .places) (s .pre) in
     omega (arith, c .size-for .ensures .0, f .s-k, f .k-19)
 
 add-end : tie.Need-add-end
 add-end c =
-    let a = c .before .before .before .before .before .before .before .before .before .before .args in
-    let f = facts (a .main .now) (a .second .now) (a .annex .now) (a .k) (a .w) (a .v) (a .taken) (a .n) (a .places) (c .before .before .before .before .before .before .before .before .before .before .pre) in
+    let s = c .before .before .before .before .before .before .before .before .before .before in
+    let a = s .args in
+    let f = facts (a .main .now) (a .second .now) (a .annex .now) (a .k) (a .w) (a .v) (a .taken) (a .n) (a .places) (s .pre) in
     omega (arith, f .taken-small)
 
 mul-write-table : tie.Need-mul-write-table
 mul-write-table c =
-    let a = c .before .before .before .before .before .before .before .before .before .before .args in
-    let f = facts (a .main .now) (a .second .now) (a .annex .now) (a .k) (a .w) (a .v) (a .taken) (a .n) (a .places) (c .before .before .before .before .before .before .before .before .before .before .pre) in
+    let s = c .before .before .before .before .before .before .before .before .before .before in
+    let a = s .args in
+    let f = facts (a .main .now) (a .second .now) (a .annex .now) (a .k) (a .w) (a .v) (a .taken) (a .n) (a .places) (s .pre) in
     omega (arith, f .taken-small)
 
 sub-write-table : tie.Need-sub-write-table
@@ -54,16 +58,18 @@ part-write-table-start c = search needs
 
 part-write-table-end : tie.Need-part-write-table-end
 part-write-table-end c =
-    let a = c .before .before .before .before .before .before .before .before .before .before .args in
-    let f = facts (a .main .now) (a .second .now) (a .annex .now) (a .k) (a .w) (a .v) (a .taken) (a .n) (a .places) (c .before .before .before .before .before .before .before .before .before .before .pre) in
+    let s = c .before .before .before .before .before .before .before .before .before .before in
+    let a = s .args in
+    let f = facts (a .main .now) (a .second .now) (a .annex .now) (a .k) (a .w) (a .v) (a .taken) (a .n) (a .places) (s .pre) in
     let x : c .table-words .result ≡ 2 ^ sizeFor (a .n) = c .table-words .ensures .0 ∙ ap (λ y. 2 ^ y) (c .before .size-for .ensures .0) in
     let h : a .taken + c .table-words .result ≤ length (a .annex .now) = omega (arith, f .room (c .before .before .if1 .left)) in
     search needs
 
 write-table-requires : tie.Need-write-table-requires
 write-table-requires c κs =
-    let a = c .before .before .before .before .before .before .before .before .before .before .before .args in
-    let f = facts (a .main .now) (a .second .now) (a .annex .now) (a .k) (a .w) (a .v) (a .taken) (a .n) (a .places) (c .before .before .before .before .before .before .before .before .before .before .before .pre) in
+    let s = c .before .before .before .before .before .before .before .before .before .before .before in
+    let a = s .args in
+    let f = facts (a .main .now) (a .second .now) (a .annex .now) (a .k) (a .w) (a .v) (a .taken) (a .n) (a .places) (s .pre) in
     let s = c .before .before .size-for .result in
     let x = c .before .table-words .result in
     let es : s ≡ sizeFor (a .n) = c .before .before .size-for .ensures .0 in
@@ -84,14 +90,16 @@ write-table-requires c κs =
 
 add-t24 : tie.Need-add-t24
 add-t24 c =
-    let a = c .before .before .before .before .before .before .before .before .before .before .before .before .before .before .args in
-    let f = facts (a .main .now) (a .second .now) (a .annex .now) (a .k) (a .w) (a .v) (a .taken) (a .n) (a .places) (c .before .before .before .before .before .before .before .before .before .before .before .before .before .before .pre) in
+    let s = c .before .before .before .before .before .before .before .before .before .before .before .before .before .before in
+    let a = s .args in
+    let f = facts (a .main .now) (a .second .now) (a .annex .now) (a .k) (a .w) (a .v) (a .taken) (a .n) (a .places) (s .pre) in
     omega (arith, f .k-19)
 
 with-place-requires : tie.Need-with-place-requires
 with-place-requires c κs =
-    let a = c .before .before .before .before .before .before .before .before .before .before .before .before .before .before .args in
-    let f = facts (a .main .now) (a .second .now) (a .annex .now) (a .k) (a .w) (a .v) (a .taken) (a .n) (a .places) (c .before .before .before .before .before .before .before .before .before .before .before .before .before .before .pre) in
+    let s = c .before .before .before .before .before .before .before .before .before .before .before .before .before .before in
+    let a = s .args in
+    let f = facts (a .main .now) (a .second .now) (a .annex .now) (a .k) (a .w) (a .v) (a .taken) (a .n) (a .places) (s .pre) in
     (f .free, f .zeros)
 
 same-length-2 : tie.Need-same-length-2

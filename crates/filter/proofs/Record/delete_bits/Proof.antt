@@ -9,13 +9,15 @@ use Rattle.filter.proofs.Record.delete_bits.Tie as tie
 
 returns : tie.Need-returns
 returns c =
-    let a = c .before .before .before .before .args in
-    bits-none (plain (a .self)) (a .main .now) (a .queue .now) (a .annex .now) (a .hash) _ _ (c .before .before .before .before .pre .0) (c .before .before .before .before .pre .1) (c .if1 .taken)
+    let s = c .before .before .before .before in
+    let a = s .args in
+    bits-none (plain (a .self)) (a .main .now) (a .queue .now) (a .annex .now) (a .hash) _ _ (s .pre .0) (s .pre .1) (c .if1 .taken)
 
 remove-requires : tie.Need-remove-requires
 remove-requires c κs =
-    let a = c .before .before .before .before .before .args in
-    let v = place (plain (a .self)) (a .main .now) (a .queue .now) (a .annex .now) (a .hash) _ _ (c .before .before .before .before .before .pre .0) in (v .inside, v .most, v .more)
+    let s = c .before .before .before .before .before in
+    let a = s .args in
+    let v = place (plain (a .self)) (a .main .now) (a .queue .now) (a .annex .now) (a .hash) _ _ (s .pre .0) in (v .inside, v .most, v .more)
 
 sub-self : tie.Need-sub-self
 sub-self c = search needs
@@ -26,18 +28,20 @@ same-length c = search needs
 returns-2 : tie.Need-returns-2
 unfolding change
 returns-2 c =
-    let a = c .before .before .before .before .before .before .before .before .before .args in
+    let s = c .before .before .before .before .before .before .before .before .before in
+    let a = s .args in
     let remove = c .before .before .before .remove .ensures in
-    bits-done (plain (a .self)) (a .main .now) (a .queue .now) (a .annex .now) (a .hash) _ _ (c .before .before .before .before .before .before .before .before .before .pre .0) (c .before .before .before .before .before .before .before .before .before .pre .1) _ _ remove
+    bits-done (plain (a .self)) (a .main .now) (a .queue .now) (a .annex .now) (a .hash) _ _ (s .pre .0) (s .pre .1) _ _ remove
 
 same-length-2 : tie.Need-same-length-2
 same-length-2 c = search needs
 
 returns-3 : tie.Need-returns-3
 returns-3 c =
-    let a = c .before .before .before .before .before .before .before .before .before .args in
+    let s = c .before .before .before .before .before .before .before .before .before in
+    let a = s .args in
     let remove = c .before .before .before .remove .ensures in
-    bits-gone (plain (a .self)) (a .main .now) (a .queue .now) (a .annex .now) (a .hash) _ _ (c .before .before .before .before .before .before .before .before .before .pre .0) (c .before .before .before .before .before .before .before .before .before .pre .1) _ _ remove (c .if2 .left)
+    bits-gone (plain (a .self)) (a .main .now) (a .queue .now) (a .annex .now) (a .hash) _ _ (s .pre .0) (s .pre .1) _ _ remove (c .if2 .left)
 
 pub delete-bits-spec : {M : Type 1} → statement M
 delete-bits-spec =

@@ -20,22 +20,25 @@ fresh-length-requires c κs = first-right (plain (c .before .before .before .bef
 
 length-of-requires : tie.Need-length-of-requires
 length-of-requires c κs =
-    let a = c .before .before .before .before .before .args in
+    let s = c .before .before .before .before .before in
+    let a = s .args in
     let width′ = c .before .width .ensures in
-    let b = bounds-of (plain (a .self)) (a .main .now) (a .queue .now) (a .annex .now) (c .before .before .before .before .before .pre .lent) in
-    (omega (arith, b .width-26, width′ .0), subst (λ (x : ℕ). a .p < tombstone x) (sym (width′ .0)) (below (plain (a .self)) (a .main .now) (a .queue .now) (a .annex .now) (a .hash) _ _ (c .before .before .before .before .before .pre)))
+    let b = bounds-of (plain (a .self)) (a .main .now) (a .queue .now) (a .annex .now) (s .pre .lent) in
+    (omega (arith, b .width-26, width′ .0), subst (λ (x : ℕ). a .p < tombstone x) (sym (width′ .0)) (below (plain (a .self)) (a .main .now) (a .queue .now) (a .annex .now) (a .hash) _ _ (s .pre)))
 
 returns : tie.Need-returns
 returns c =
-    let a = c .before .before .before .before .before .before .before .args in
+    let s = c .before .before .before .before .before .before .before in
+    let a = s .args in
     let width′ = c .before .before .before .width .ensures in
-    renew-kept (plain (a .self)) (a .main .now) (a .queue .now) (a .annex .now) (a .hash) _ _ (c .before .before .before .before .before .before .before .pre) (subst (λ (x : ℕ). x ≤ lengthOf (width (plain (a .self))) (a .p)) (c .before .before .fresh-length .ensures .0) (subst (λ (x : ℕ). c .before .before .fresh-length .result ≤ x) (c .before .length-of .ensures ∙ ap (λ (w : ℕ). lengthOf w (a .p)) (width′ .0)) (c .if1 .taken)))
+    renew-kept (plain (a .self)) (a .main .now) (a .queue .now) (a .annex .now) (a .hash) _ _ (s .pre) (subst (λ (x : ℕ). x ≤ lengthOf (width (plain (a .self))) (a .p)) (c .before .before .fresh-length .ensures .0) (subst (λ (x : ℕ). c .before .before .fresh-length .result ≤ x) (c .before .length-of .ensures ∙ ap (λ (w : ℕ). lengthOf w (a .p)) (width′ .0)) (c .if1 .taken)))
 
 fresh-requires : tie.Need-fresh-requires
 fresh-requires c κs =
-    let a = c .before .before .before .before .before .before .before .args in
+    let s = c .before .before .before .before .before .before .before in
+    let a = s .args in
     let width′ = c .before .before .before .width .ensures in
-    let b = bounds-of (plain (a .self)) (a .main .now) (a .queue .now) (a .annex .now) (c .before .before .before .before .before .before .before .pre .lent) in
+    let b = bounds-of (plain (a .self)) (a .main .now) (a .queue .now) (a .annex .now) (s .pre .lent) in
     omega (arith, b .fresh-width, b .width-26, b .k-20, width′ .0, c .before .before .fresh-length .ensures .0)
 
 void-of-requires : tie.Need-void-of-requires
@@ -43,7 +46,8 @@ void-of-requires c κs = search needs
 
 renew-void-requires : tie.Need-renew-void-requires
 renew-void-requires c κs =
-    let a = c .before .before .before .before .before .before .before .before .before .before .before .before .before .args in
+    let s = c .before .before .before .before .before .before .before .before .before .before .before .before .before in
+    let a = s .args in
     let width′ = c .before .before .before .before .before .before .before .before .before .width .ensures in
     let fresh-length = c .before .before .before .before .before .before .before .before .fresh-length .ensures in
     let length-of = c .before .before .before .before .before .before .before .length-of .ensures in
@@ -51,7 +55,7 @@ renew-void-requires c κs =
     let fresh = c .before .before .before .before .before .fresh .ensures in
     let void-of = c .before .before .before .before .void-of .ensures in
     let if2 = c .before .before .before .if2 in
-    (c .before .before .before .before .before .before .before .before .before .before .before .before .before .pre, if2 .taken ∙ void-of ∙ ap void (width′ .0), renewing (plain (a .self)) (a .main .now) (a .queue .now) (a .annex .now) (a .hash) _ _ (c .before .before .before .before .before .before .before .before .before .before .before .before .before .pre) _ _ _ _ (width′ .0) (fresh-length .0) length-of (if1 .left) fresh)
+    (s .pre, if2 .taken ∙ void-of ∙ ap void (width′ .0), renewing (plain (a .self)) (a .main .now) (a .queue .now) (a .annex .now) (a .hash) _ _ (s .pre) _ _ _ _ (width′ .0) (fresh-length .0) length-of (if1 .left) fresh)
 
 same-length : tie.Need-same-length
 same-length c = search needs
@@ -67,7 +71,8 @@ returns-2 c = search needs
 
 renew-bits-requires : tie.Need-renew-bits-requires
 renew-bits-requires c κs =
-    let a = c .before .before .before .before .before .before .before .before .before .before .before .before .before .args in
+    let s = c .before .before .before .before .before .before .before .before .before .before .before .before .before in
+    let a = s .args in
     let width′ = c .before .before .before .before .before .before .before .before .before .width .ensures in
     let fresh-length = c .before .before .before .before .before .before .before .before .fresh-length .ensures in
     let length-of = c .before .before .before .before .before .before .before .length-of .ensures in
@@ -75,7 +80,7 @@ renew-bits-requires c κs =
     let fresh = c .before .before .before .before .before .fresh .ensures in
     let void-of = c .before .before .before .before .void-of .ensures in
     let if2 = c .before .before .before .if2 in
-    (c .before .before .before .before .before .before .before .before .before .before .before .before .before .pre, λ e. if2 .left (e ∙ sym (void-of ∙ ap void (width′ .0))), renewing (plain (a .self)) (a .main .now) (a .queue .now) (a .annex .now) (a .hash) _ _ (c .before .before .before .before .before .before .before .before .before .before .before .before .before .pre) _ _ _ _ (width′ .0) (fresh-length .0) length-of (if1 .left) fresh)
+    (s .pre, λ e. if2 .left (e ∙ sym (void-of ∙ ap void (width′ .0))), renewing (plain (a .self)) (a .main .now) (a .queue .now) (a .annex .now) (a .hash) _ _ (s .pre) _ _ _ _ (width′ .0) (fresh-length .0) length-of (if1 .left) fresh)
 
 same-length-4 : tie.Need-same-length-4
 same-length-4 c = search needs

@@ -8,26 +8,29 @@ use Rattle.filter.proofs.Record.renew_bits.Tie as tie
 
 exchange-requires : tie.Need-exchange-requires
 exchange-requires c κs =
-    let a = c .before .before .before .before .args in
-    let v = place (plain (a .self)) (a .main .now) (a .queue .now) (a .annex .now) (a .hash) _ _ (c .before .before .before .before .pre .0) in (v .inside, v .most, v .more, fresh-small (plain (a .self)) (a .main .now) (a .queue .now) (a .annex .now) (a .hash) _ _ (c .before .before .before .before .pre .0) _ (c .before .before .before .before .pre .2))
+    let s = c .before .before .before .before in
+    let a = s .args in
+    let v = place (plain (a .self)) (a .main .now) (a .queue .now) (a .annex .now) (a .hash) _ _ (s .pre .0) in (v .inside, v .most, v .more, fresh-small (plain (a .self)) (a .main .now) (a .queue .now) (a .annex .now) (a .hash) _ _ (s .pre .0) _ (s .pre .2))
 
 same-length : tie.Need-same-length
 same-length c = search needs
 
 returns : tie.Need-returns
 returns c =
-    let a = c .before .before .before .before .before .before .before .before .args in
+    let s = c .before .before .before .before .before .before .before .before in
+    let a = s .args in
     let exchange = c .before .before .before .exchange .ensures in
-    renew-bits (plain (a .self)) (a .main .now) (a .queue .now) (a .annex .now) (a .hash) _ _ (c .before .before .before .before .before .before .before .before .pre .0) _ (c .before .before .before .before .before .before .before .before .pre .2) (c .before .before .before .before .before .before .before .before .pre .1) _ _ exchange (c .if1 .taken)
+    renew-bits (plain (a .self)) (a .main .now) (a .queue .now) (a .annex .now) (a .hash) _ _ (s .pre .0) _ (s .pre .2) (s .pre .1) _ _ exchange (c .if1 .taken)
 
 same-length-2 : tie.Need-same-length-2
 same-length-2 c = search needs
 
 returns-2 : tie.Need-returns-2
 returns-2 c =
-    let a = c .before .before .before .before .before .before .before .before .args in
+    let s = c .before .before .before .before .before .before .before .before in
+    let a = s .args in
     let exchange = c .before .before .before .exchange .ensures in
-    renew-none (plain (a .self)) (a .main .now) (a .queue .now) (a .annex .now) (a .hash) _ _ (c .before .before .before .before .before .before .before .before .pre .0) _ (c .before .before .before .before .before .before .before .before .pre .2) _ _ exchange (c .if1 .left)
+    renew-none (plain (a .self)) (a .main .now) (a .queue .now) (a .annex .now) (a .hash) _ _ (s .pre .0) _ (s .pre .2) _ _ exchange (c .if1 .left)
 
 pub renew-bits-spec : {M : Type 1} → statement M
 renew-bits-spec =

@@ -15,47 +15,55 @@ cast-q c = search needs
 
 returns : tie.Need-returns
 returns c =
-    let a = c .before .before .before .before .args in
-    renew-full (plain (a .self)) (a .main .now) (a .queue .now) (a .annex .now) (a .hash) _ _ (c .before .before .before .before .pre .0) _ (c .before .before .before .before .pre .2) (c .before .before .before .before .pre .1) (c .if1 .taken)
+    let s = c .before .before .before .before in
+    let a = s .args in
+    renew-full (plain (a .self)) (a .main .now) (a .queue .now) (a .annex .now) (a .hash) _ _ (s .pre .0) _ (s .pre .2) (s .pre .1) (c .if1 .taken)
 
 returns-2 : tie.Need-returns-2
 returns-2 c =
-    let a = c .before .before .before .before .before .args in
-    renew-lent (plain (a .self)) (a .main .now) (a .queue .now) (a .annex .now) (a .hash) _ _ (c .before .before .before .before .before .pre .0) _ (c .before .before .before .before .before .pre .2) (c .before .before .before .before .before .pre .1) (c .if2 .taken)
+    let s = c .before .before .before .before .before in
+    let a = s .args in
+    renew-lent (plain (a .self)) (a .main .now) (a .queue .now) (a .annex .now) (a .hash) _ _ (s .pre .0) _ (s .pre .2) (s .pre .1) (c .if2 .taken)
 
 exchange-requires : tie.Need-exchange-requires
 exchange-requires c κs =
-    let a = c .before .before .before .before .before .before .args in
-    let v = place (plain (a .self)) (a .main .now) (a .queue .now) (a .annex .now) (a .hash) _ _ (c .before .before .before .before .before .before .pre .0) in (v .inside, v .most, v .more, fresh-small (plain (a .self)) (a .main .now) (a .queue .now) (a .annex .now) (a .hash) _ _ (c .before .before .before .before .before .before .pre .0) _ (c .before .before .before .before .before .before .pre .2))
+    let s = c .before .before .before .before .before .before in
+    let a = s .args in
+    let v = place (plain (a .self)) (a .main .now) (a .queue .now) (a .annex .now) (a .hash) _ _ (s .pre .0) in (v .inside, v .most, v .more, fresh-small (plain (a .self)) (a .main .now) (a .queue .now) (a .annex .now) (a .hash) _ _ (s .pre .0) _ (s .pre .2))
 
 cast-queue : tie.Need-cast-queue
 cast-queue c =
-    let a = c .before .before .before .before .before .before .before .before .before .before .args in
-    let v = place (plain (a .self)) (a .main .now) (a .queue .now) (a .annex .now) (a .hash) _ _ (c .before .before .before .before .before .before .before .before .before .before .pre .0) in omega (arith, v .slots)
+    let s = c .before .before .before .before .before .before .before .before .before .before in
+    let a = s .args in
+    let v = place (plain (a .self)) (a .main .now) (a .queue .now) (a .annex .now) (a .hash) _ _ (s .pre .0) in omega (arith, v .slots)
 
 mul-queue : tie.Need-mul-queue
 mul-queue c =
-    let a = c .before .before .before .before .before .before .before .before .before .before .args in
-    let v = place (plain (a .self)) (a .main .now) (a .queue .now) (a .annex .now) (a .hash) _ _ (c .before .before .before .before .before .before .before .before .before .before .pre .0) in omega (arith, v .slots)
+    let s = c .before .before .before .before .before .before .before .before .before .before in
+    let a = s .args in
+    let v = place (plain (a .self)) (a .main .now) (a .queue .now) (a .annex .now) (a .hash) _ _ (s .pre .0) in omega (arith, v .slots)
 
 add-queue : tie.Need-add-queue
 add-queue c =
-    let a = c .before .before .before .before .before .before .before .before .before .before .args in
-    let v = place (plain (a .self)) (a .main .now) (a .queue .now) (a .annex .now) (a .hash) _ _ (c .before .before .before .before .before .before .before .before .before .before .pre .0) in omega (arith, v .slots)
+    let s = c .before .before .before .before .before .before .before .before .before .before in
+    let a = s .args in
+    let v = place (plain (a .self)) (a .main .now) (a .queue .now) (a .annex .now) (a .hash) _ _ (s .pre .0) in omega (arith, v .slots)
 
 mul-queue-2 : tie.Need-mul-queue-2
 mul-queue-2 c = search needs
 
 slice-write-queue : tie.Need-slice-write-queue
 slice-write-queue c =
-    let a = c .before .before .before .before .before .before .before .before .before .before .args in
+    let s = c .before .before .before .before .before .before .before .before .before .before in
+    let a = s .args in
     let if2 = c .before .before .before .before .before .if2 in
-    let v = place (plain (a .self)) (a .main .now) (a .queue .now) (a .annex .now) (a .hash) _ _ (c .before .before .before .before .before .before .before .before .before .before .pre .0) in let n = if2 .left in omega (arith, v .queued, n)
+    let v = place (plain (a .self)) (a .main .now) (a .queue .now) (a .annex .now) (a .hash) _ _ (s .pre .0) in let n = if2 .left in omega (arith, v .queued, n)
 
 add-self : tie.Need-add-self
 add-self c =
-    let a = c .before .before .before .before .before .before .before .before .before .before .args in
-    let b = bounds-of (plain (a .self)) (a .main .now) (a .queue .now) (a .annex .now) (c .before .before .before .before .before .before .before .before .before .before .pre .0 .lent) in omega (arith, b .queued-small)
+    let s = c .before .before .before .before .before .before .before .before .before .before in
+    let a = s .args in
+    let b = bounds-of (plain (a .self)) (a .main .now) (a .queue .now) (a .annex .now) (s .pre .0 .lent) in omega (arith, b .queued-small)
 
 same-length : tie.Need-same-length
 same-length c = search needs
@@ -66,20 +74,22 @@ same-length-2 c = search needs
 returns-3 : tie.Need-returns-3
 unfolding change
 returns-3 c =
-    let a = c .before .before .before .before .before .before .before .before .before .before .args in
+    let s = c .before .before .before .before .before .before .before .before .before .before in
+    let a = s .args in
     let if1 = c .before .before .before .before .before .before .if1 in
     let if2 = c .before .before .before .before .before .if2 in
     let exchange = c .before .before .before .exchange .ensures in
-    renew-void (plain (a .self)) (a .main .now) (a .queue .now) (a .annex .now) (a .hash) _ _ (c .before .before .before .before .before .before .before .before .before .before .pre .0) _ (c .before .before .before .before .before .before .before .before .before .before .pre .2) (c .before .before .before .before .before .before .before .before .before .before .pre .1) _ _ _ exchange (c .if3 .taken) refl (if1 .left) (if2 .left)
+    renew-void (plain (a .self)) (a .main .now) (a .queue .now) (a .annex .now) (a .hash) _ _ (s .pre .0) _ (s .pre .2) (s .pre .1) _ _ _ exchange (c .if3 .taken) refl (if1 .left) (if2 .left)
 
 same-length-3 : tie.Need-same-length-3
 same-length-3 c = search needs
 
 returns-4 : tie.Need-returns-4
 returns-4 c =
-    let a = c .before .before .before .before .before .before .before .before .before .before .args in
+    let s = c .before .before .before .before .before .before .before .before .before .before in
+    let a = s .args in
     let exchange = c .before .before .before .exchange .ensures in
-    renew-none (plain (a .self)) (a .main .now) (a .queue .now) (a .annex .now) (a .hash) _ _ (c .before .before .before .before .before .before .before .before .before .before .pre .0) _ (c .before .before .before .before .before .before .before .before .before .before .pre .2) _ _ exchange (c .if3 .left)
+    renew-none (plain (a .self)) (a .main .now) (a .queue .now) (a .annex .now) (a .hash) _ _ (s .pre .0) _ (s .pre .2) _ _ exchange (c .if3 .left)
 
 pub renew-void-spec : {M : Type 1} → statement M
 renew-void-spec =
