@@ -139,7 +139,7 @@ pub fn counts_right(
     ensures { λ r. ⌜ r ≡ rightFrom (addressTest w places (now (annex .entry)) (now (queue .entry))) 0 (decode (now (words .entry))) ⌝ }
 {
     let len = words.len();
-    let first = lookup::locate(words, 0);
+    let first = walks::locate(words, 0);
     let mut k = first.carry;
     let mut base: usize = 0;
     while base < len {

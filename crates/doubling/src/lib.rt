@@ -22,7 +22,7 @@ fn count_in(main: &[u32], c: usize, w: u32) -> u32
     ensures { λ r. ⌜ ((k : ℕ) → r ≡ length (ofRun (newHash w k c) (runAt (now (main .entry)) c))) ⌝ }
 {
     let n = main.len();
-    let r = lookup::locate(main, c);
+    let r = walks::locate(main, c);
     let b = r.home;
     let f = r.from;
     let mut m: u32 = 0;
@@ -142,7 +142,7 @@ fn send_run(main: &[u32], second: &mut [u32], c: usize, w: u32, v: u32) -> u32
         × (r ≡ length (ofRun (halves w v (length (now (main .entry))) c) (runAt (now (main .entry)) c))) ⌝ }
 {
     let n = main.len();
-    let r = lookup::locate(main, c);
+    let r = walks::locate(main, c);
     let b = r.home;
     let f = r.from;
     let mut used: u32 = 0;
@@ -226,7 +226,7 @@ fn store_run(main: &[u32], part: &mut [u32], k: u32, c: usize, w: u32, s: u32)
     ensures { λ r. ⌜ Arrived (now (part .entry)) (now (part .exit)) (ofRun (stored w k s c) (runAt (now (main .entry)) c)) ⌝ }
 {
     let n = main.len();
-    let r = lookup::locate(main, c);
+    let r = walks::locate(main, c);
     let b = r.home;
     let f = r.from;
     let mut t: usize = 0;

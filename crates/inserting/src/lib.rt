@@ -31,7 +31,7 @@ fn shove(ws: &mut [u32], c: usize, from: usize, e: u32)
     }
     let mut hand = e;
     let mut k = from;
-    let mut i = lookup::around(c, from, n);
+    let mut i = walks::around(c, from, n);
     while k < n {
         let w = ws[i];
         ws[i] = moved(hand, w);
@@ -39,7 +39,7 @@ fn shove(ws: &mut [u32], c: usize, from: usize, e: u32)
             return;
         }
         hand = stripped(w);
-        i = lookup::after(i, n);
+        i = walks::after(i, n);
         k = k + 1;
     }
 }
@@ -80,7 +80,7 @@ pub fn put(ws: &mut [u32], c: usize, k: usize, u: usize, o: u32, x: u32)
             return;
         }
         let n = ws.len();
-        let i = lookup::around(c, k, n);
+        let i = walks::around(c, k, n);
         let v = ws[i];
         ws[i] = moved(x * 8, v);
         let e = later(v);

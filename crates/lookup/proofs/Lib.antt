@@ -1,4 +1,3 @@
--- The laws of the walks over one table: the two straight parts of a circle, the entries of a run, and what a search finds.
-pub mod Parts
+-- The laws of the searches in a run: what is found, and the walk over its entries.
 pub mod Finds
 pub mod Scans

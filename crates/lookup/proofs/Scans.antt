@@ -1,20 +1,17 @@
 -- The walk over the entries of a run, which carries the slot and the payload from turn to turn: the slot is that of the linear place, and the payload that of the entry
--- there. And the run of an entry at home, which is found without a walk.
+-- there.
 use mathlib.Core.Path.{_≡_, refl, sym, ap, _∙_, subst}
-use mathlib.Core.Bool.{Bool, true, false, cond}
+use mathlib.Core.Bool.{Bool, true, false}
 use mathlib.Core.List.{List}
-use Prim.Native.Nat.{ℕ, suc, _+_, _-_, _/_, _%_, _≤_, _<_}
+use Prim.Native.Nat.{ℕ, _+_, _-_, _/_, _%_, _≤_, _<_}
 use native.Mathlib.Omega.{arith}
 use native.Mathlib.Decide.{decLt}
 use lib.ListN.{length, getD}
-use borrow.Author.Tests.{lt-ltb, le-leb}
-use Rattle.layout.specs.Decode.{steps, passed, skip, turn, reading, placeOf}
-use Rattle.layout.specs.Moves.{wrap, back, lefts, rights}
-use Rattle.layout.specs.Reading.{runFrom, homeOf}
+use Rattle.layout.specs.Moves.{wrap}
+use Rattle.layout.specs.Reading.{runFrom}
 use Rattle.layout.proofs.Searches.{Seeking, seeking-start, seeking-on, true-lt, false-le}
-use Rattle.layout.proofs.Wraps.{wrap-first, wrap-next}
-use Rattle.layout.proofs.Walks.{lefts-length, rights-length, left-start, left-stop, right-start, right-found, read, seen}
-use Rattle.layout.proofs.RunLaws.{Answer, run-length, step-first, step-stop, step-on, located, carried}
+use Rattle.layout.proofs.Wraps.{wrap-next}
+use Rattle.layout.proofs.RunLaws.{Answer, run-length, step-first, step-stop, step-on}
 use Rattle.lookup.specs.Spots.{First}
 use Rattle.lookup.proofs.Finds.{first-found, first-none}
 
@@ -94,29 +91,3 @@ module _ (f : ℕ → Bool) (ws : List ℕ) (b from n : ℕ) (hb : b < n) (hn : 
               there = λ g. true-lt (t + 1 - from) (length run) true (answer z g .0) refl;
               payload = λ g. ap (λ (w : ℕ). w / 8) ev ∙ answer z g .1;
             }
-
--- an entry at home that begins a run: the run is that of its address
-module _ (ws : List ℕ) (c v : ℕ) (hc : c < length ws) (h : 1 < length ws) (ev : v ≡ getD ws c 0) (z : v / 2 % 4 ≡ 0) where
-  self : c ≡ back (length ws) c 0
-  unfolding back
-  self = (omega arith) ∙ sym (ap (λ (y : Bool). cond y (c - 0) (c + length ws - 0)) (le-leb 0 c (omega arith)))
-
-  none-left : (steps (lefts ws c) ≡ 0) × (passed (lefts ws c) ≡ 0)
-  none-left =
-      left-stop (lefts ws c) 0 0 v (omega (arith, lefts-length ws c)) (ev ∙ seen ws c 0 (length ws) c hc (omega arith) refl self) (left-start (lefts ws c)) (omega arith)
-
-  home : c ≡ homeOf (length ws) c 0
-  unfolding homeOf
-  home = self ∙ sym (ap (λ (y : Bool). cond y (back (length ws) c 0) (wrap (length ws) c 1)) (lt-ltb 0 (length ws) (omega arith)))
-
-  none-right : skip 0 (rights ws c) ≡ 0
-  none-right =
-      let e : getD ws c 0 / 2 % 2 ≡ 0 = omega arith in
-      right-found (rights ws c) 0 0 0 (getD ws c 0 / 2 % 2) (getD ws c 0 / 8) (omega (arith, rights-length ws c))
-      (read ws c 0 (length ws) c hc (omega arith) refl (wrap-first (length ws) c hc)) (right-start (rights ws c) 0) e refl
-
-  pub home-located : runFrom ws c 0 ≡ reading (turn (suc c) ws)
-  home-located = located ws c 0 0 c 0 hc h (none-left .0) (none-left .1) home none-right
-
-  pub home-carried : 0 ≡ placeOf ws c
-  home-carried = carried ws c 0 0 c 0 hc h (none-left .0) (none-left .1) home none-right

@@ -5,7 +5,7 @@ use Prim.Native.Nat.{ℕ, zero, suc, _+_, _-_, _*_, _/_, _^_, _<_}
 use native.Mathlib.Omega.{arith}
 use lib.ListN.{length, take, drop, getD}
 use Rattle.layout.specs.Bytes.{wordsOf}
-use Rattle.lookup.proofs.Parts.{tail}
+use Rattle.walks.proofs.Parts.{tail}
 
 pub words-length : (bs : List ℕ) → length (wordsOf bs) ≡ length bs / 4
 unfolding wordsOf

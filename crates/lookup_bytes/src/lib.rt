@@ -10,9 +10,9 @@ ghost use Rattle.layout.specs.Moves.{lefts, rights, isStart};
 ghost use Rattle.layout.specs.Reading.{runFrom};
 ghost use Rattle.lookup.specs.Spots.{First};
 ghost use Rattle.layout.specs.Bytes.{wordsOf};
-use lookup::Home;
+use walks::Home;
 use lookup::Match;
-use lookup::Skipped;
+use walks::Skipped;
 
 // The byte at j.
 fn byte(bytes: &[u8], j: usize) -> u32
@@ -46,7 +46,7 @@ fn walk_left(part: &[u8]) -> Home
     let mut i = n;
     while 0 < i {
         let w = word(part, i - 1);
-        let b = lookup::mark(w);
+        let b = walks::mark(w);
         if w / 4 % 2 == 0 {
             return Home {
                 steps: n - i,
@@ -64,7 +64,7 @@ fn walk_home(bytes: &[u8], c: usize) -> Home
     requires { ⌜ (4 * c + 3 < length (now bytes)) × (length (now bytes) ≤ 4194304) ⌝ }
     ensures { λ r. ⌜ (steps (lefts (wordsOf (now (bytes .entry))) c) ≡ r .steps) × (passed (lefts (wordsOf (now (bytes .entry))) c) ≡ r .runs) ⌝ }
 {
-    let own = lookup::mark(word(bytes, c));
+    let own = walks::mark(word(bytes, c));
     let e = 4 * (c + 1);
     let near = walk_left(&bytes[..e]);
     if near.steps <= c {
@@ -89,7 +89,7 @@ fn skip_runs(part: &[u8], m: usize) -> Skipped
     let mut togo = m;
     let mut k: usize = 0;
     while k < n {
-        let s = lookup::begins(word(part, k));
+        let s = walks::begins(word(part, k));
         if togo < s {
             return Skipped { steps: k, togo: 0 };
         }
@@ -131,7 +131,7 @@ fn locate(bytes: &[u8], c: usize) -> RunPlace
         return RunPlace { home: c, from: 0 };
     }
     let h = walk_home(bytes, c);
-    let b = lookup::home_slot(c, h.steps, n);
+    let b = walks::home_slot(c, h.steps, n);
     let s = seek(bytes, b, h.runs);
     RunPlace { home: b, from: s }
 }
@@ -149,7 +149,7 @@ fn first_from(bytes: &[u8], b: usize, from: usize, w: u32, k: u32, hash: u64) ->
         };
     }
     let mut t = from;
-    let mut i = lookup::around(b, from, n);
+    let mut i = walks::around(b, from, n);
     let mut p = word(bytes, i) / 8;
     while t < n {
         let m = slots::matches(p, w, k, hash);
@@ -159,7 +159,7 @@ fn first_from(bytes: &[u8], b: usize, from: usize, w: u32, k: u32, hash: u64) ->
                 payload: p,
             };
         }
-        i = lookup::around(i, 1, n);
+        i = walks::around(i, 1, n);
         let v = word(bytes, i);
         if v / 2 % 2 == 0 {
             return Match {

@@ -37,10 +37,10 @@ fn draw(ws: &mut [u32], c: usize, from: usize, m: usize)
     let n = ws.len();
     let mut q = m;
     let mut k = from;
-    let mut i = lookup::around(c, from, n);
+    let mut i = walks::around(c, from, n);
     let mut w = ws[i];
     while k + 1 < n {
-        let j = lookup::after(i, n);
+        let j = walks::after(i, n);
         let v = ws[j];
         if v / 4 % 2 == 0 {
             ws[i] = 0;
@@ -71,11 +71,11 @@ fn marks_between(ws: &[u32], c: usize, k: usize) -> usize
     let n = ws.len();
     let mut m: usize = 0;
     let mut j: usize = 1;
-    let mut i = lookup::after(c, n);
+    let mut i = walks::after(c, n);
     while j < k {
         let b = mark_of(ws[i]);
         m = m + b;
-        i = lookup::after(i, n);
+        i = walks::after(i, n);
         j = j + 1;
     }
     m
@@ -113,7 +113,7 @@ pub fn pluck(ws: &mut [u32], c: usize, k: usize, u: usize, v: usize)
             ws[c] = 0;
             return;
         }
-        let j = lookup::around(c, 1, n);
+        let j = walks::around(c, 1, n);
         ws[c] = home_word(ws[j]);
         draw(ws, c, 1, 0);
         return;
@@ -125,8 +125,8 @@ pub fn pluck(ws: &mut [u32], c: usize, k: usize, u: usize, v: usize)
             draw(ws, c, k, m);
             return;
         }
-        let i = lookup::around(c, k, n);
-        let j = lookup::around(c, k + 1, n);
+        let i = walks::around(c, k, n);
+        let j = walks::around(c, k + 1, n);
         let w = ws[i];
         ws[i] = head_word(ws[j], w);
         let b = mark_of(w);

@@ -168,7 +168,7 @@ fn lap_from(words: &[u32], z: usize, count: u32, t: Spans) -> bool
         let w = words[i];
         s = stepped(s, w, t);
         if s.good {
-            i = lookup::around(i, 1, n);
+            i = walks::around(i, 1, n);
             j = j + 1;
         } else {
             return false;
@@ -219,13 +219,13 @@ pub fn read_run(words: &[u32], c: usize, k: usize, t: u32, v: u32) -> Found
             voids: 0,
         };
     }
-    let i = lookup::around(c, k, n);
+    let i = walks::around(c, k, n);
     let first = words[i];
     let mut tombstones = one_if(first, t);
     let mut voids = one_if(first, v);
     let mut j = k + 1;
     while j < n {
-        let i = lookup::around(c, j, n);
+        let i = walks::around(c, j, n);
         let w = words[i];
         if w / 2 % 2 == 0 {
             return Found {

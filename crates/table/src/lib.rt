@@ -15,7 +15,7 @@ pub fn insert(ws: &mut [u32], c: usize, x: u32)
         → now (ws .exit) ≡ layout (set runs c (add x (getD runs c [])))) ⌝ }
 {
     let n = ws.len();
-    let r = lookup::locate(ws, c);
+    let r = walks::locate(ws, c);
     let b = r.home;
     let f = r.from;
     let d = r.carry;
@@ -68,7 +68,7 @@ pub fn raise_last(ws: &mut [u32], c: usize, x: u32) -> bool
     let k = s.slot;
     if s.found {
         if k < n {
-            let i = lookup::around(c, k, n);
+            let i = walks::around(c, k, n);
             ws[i] = paid(x + 1, ws[i]);
             return true;
         }

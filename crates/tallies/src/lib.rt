@@ -117,7 +117,7 @@ fn tally_table(part: &[u32], b: u32, s: u32, base: u32, n: usize, mothers: &mut 
     let size = part.len();
     let mut a = annex::hash_slot(s, base);
     let mut p = annex::hash_entry(b, s, base);
-    let first = lookup::locate(part, a);
+    let first = walks::locate(part, a);
     let mut k = first.carry;
     let mut i: usize = 0;
     while i < n {
@@ -125,7 +125,7 @@ fn tally_table(part: &[u32], b: u32, s: u32, base: u32, n: usize, mothers: &mut 
         let run = sound::read_run(part, a, k, p, p);
         mothers[i] = mothers[i] + run.voids;
         k = onward(k, run.len);
-        a = lookup::around(a, 1, size);
+        a = walks::around(a, 1, size);
         i = i + 1;
         if a == 0 {
             let c = base + i as u32;

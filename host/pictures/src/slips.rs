@@ -18,7 +18,7 @@ pub const SLIPS: [(&str, Player); 7] = [
     ("settling/first_word_only", first_word_only),
     ("slots/tombstone_matches", tombstone_matches),
     ("filter/void_before_bits", void_before_bits),
-    ("lookup/walk_at_slot_0", walk_at_slot_0),
+    ("walks/walk_at_slot_0", walk_at_slot_0),
 ];
 
 /// The slip of one name.

@@ -1,4 +1,4 @@
-//! Query and Insert by walking over the words, as crates/lookup and crates/table do it, but with every cluster begun at slot 0.
+//! Query and Insert by walking over the words, as crates/walks, lookup and table do it, but with every cluster begun at slot 0.
 
 use second::calls::{fresh_payload, FULL, RECORD_OUT_OF_RANGE, WRONG_LENGTH};
 use second::numbers::load_limit;

@@ -1,7 +1,7 @@
 -- `lookup::query_place` meets its contract: an entry at home begins its run; else the walk finds it.
 use mathlib.Core.Path.{refl}
 use borrow.Author.Needs.{needs}
-use Rattle.lookup.proofs.Scans.{home-located}
+use Rattle.walks.proofs.Homes.{home-located}
 use Rattle.lookup.proofs.query_place.Statement.{statement}
 use Rattle.lookup.proofs.query_place.Tie as tie
 

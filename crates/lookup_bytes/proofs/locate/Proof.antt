@@ -6,7 +6,7 @@ use borrow.Author.Needs.{needs}
 use Rattle.layout.specs.Reading.{homeOf}
 use Rattle.layout.proofs.RunLaws.{located}
 use Rattle.layout.specs.Bytes.{wordsOf}
-use Rattle.lookup.proofs.Scans.{home-located}
+use Rattle.walks.proofs.Homes.{home-located}
 use Rattle.lookup_bytes.proofs.Bytes.{words-length}
 use Rattle.lookup_bytes.proofs.locate.Statement.{statement}
 use Rattle.lookup_bytes.proofs.locate.Tie as tie

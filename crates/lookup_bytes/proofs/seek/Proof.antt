@@ -6,7 +6,7 @@ use lib.ListN.{take}
 use lib.Seq.{length-take-le}
 use borrow.Author.Needs.{needs}
 use Rattle.layout.specs.Bytes.{wordsOf}
-use Rattle.lookup.proofs.Parts.{seek-near, seek-far}
+use Rattle.walks.proofs.Parts.{seek-near, seek-far}
 use Rattle.lookup_bytes.proofs.Bytes.{words-length, words-take, words-tail}
 use Rattle.lookup_bytes.proofs.seek.Statement.{statement}
 use Rattle.lookup_bytes.proofs.seek.Tie as tie

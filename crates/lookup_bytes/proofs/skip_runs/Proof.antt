@@ -3,7 +3,7 @@ use Prim.Native.Nat.{_-_, _≤_}
 use native.Mathlib.Omega.{arith}
 use borrow.Author.Needs.{needs}
 use Rattle.layout.specs.Bytes.{wordsOf}
-use Rattle.lookup.proofs.Parts.{Skipping, skipping-start, skipping-found, skipping-on, skipping-end}
+use Rattle.walks.proofs.Parts.{Skipping, skipping-start, skipping-found, skipping-on, skipping-end}
 use Rattle.lookup_bytes.proofs.Bytes.{words-length}
 use Rattle.lookup_bytes.proofs.skip_runs.Statement.{statement}
 use Rattle.lookup_bytes.proofs.skip_runs.Tie as tie

@@ -7,7 +7,7 @@ use lib.ListN.{length-drop}
 use lib.Seq.{length-take-le}
 use borrow.Author.Needs.{needs}
 use Rattle.layout.specs.Bytes.{wordsOf}
-use Rattle.lookup.proofs.Parts.{own-counted, home-near, home-far}
+use Rattle.walks.proofs.Parts.{own-counted, home-near, home-far}
 use Rattle.lookup_bytes.proofs.Bytes.{words-length, words-take, words-tail}
 use Rattle.lookup_bytes.proofs.walk_home.Statement.{statement}
 use Rattle.lookup_bytes.proofs.walk_home.Tie as tie

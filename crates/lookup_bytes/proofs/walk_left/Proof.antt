@@ -4,7 +4,7 @@ use Prim.Native.Nat.{ℕ, _-_}
 use native.Mathlib.Omega.{arith}
 use borrow.Author.Needs.{needs}
 use Rattle.layout.specs.Bytes.{wordsOf}
-use Rattle.lookup.proofs.Parts.{Homing, homing-start, homing-stop, homing-on, homing-end}
+use Rattle.walks.proofs.Parts.{Homing, homing-start, homing-stop, homing-on, homing-end}
 use Rattle.lookup_bytes.proofs.Bytes.{words-length}
 use Rattle.lookup_bytes.proofs.walk_left.Statement.{statement}
 use Rattle.lookup_bytes.proofs.walk_left.Tie as tie

@@ -1,9 +1,9 @@
--- `lookup::after` goes one slot on: the two branches are the two cases of the wrap.
+-- `walks::after` goes one slot on: the two branches are the two cases of the wrap.
 use native.Mathlib.Omega.{arith}
 use Rattle.layout.proofs.Wraps.{wrap-low, wrap-high}
 use borrow.Author.Needs.{needs}
-use Rattle.lookup.proofs.after.Statement.{statement}
-use Rattle.lookup.proofs.after.Tie as tie
+use Rattle.walks.proofs.after.Statement.{statement}
+use Rattle.walks.proofs.after.Tie as tie
 
 add-if1 : tie.Need-add-if1
 add-if1 c = search needs

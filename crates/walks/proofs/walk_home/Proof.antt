@@ -1,4 +1,4 @@
--- `lookup::walk_home` meets its contract: the circle to the left of c is the part up to c and the part behind c, walked one after the other; the bit of c itself
+-- `walks::walk_home` meets its contract: the circle to the left of c is the part up to c and the part behind c, walked one after the other; the bit of c itself
 -- does not count.
 use mathlib.Core.Path.{refl, sym}
 use Prim.Native.Nat.{_+_}
@@ -6,9 +6,9 @@ use native.Mathlib.Omega.{arith}
 use lib.ListN.{length-drop}
 use lib.Seq.{length-take-le}
 use borrow.Author.Needs.{needs}
-use Rattle.lookup.proofs.Parts.{own-counted, home-near, home-far, tail}
-use Rattle.lookup.proofs.walk_home.Statement.{statement}
-use Rattle.lookup.proofs.walk_home.Tie as tie
+use Rattle.walks.proofs.Parts.{own-counted, home-near, home-far, tail}
+use Rattle.walks.proofs.walk_home.Statement.{statement}
+use Rattle.walks.proofs.walk_home.Tie as tie
 
 mul-mark : tie.Need-mul-mark
 mul-mark c = search needs

@@ -1,10 +1,10 @@
--- `lookup::behind` meets its contract: `back`, by the same test.
+-- `walks::behind` meets its contract: `back`, by the same test.
 use native.Mathlib.Omega.{arith}
 use borrow.Author.Tests.{le-leb, lt-leb}
 use Rattle.layout.specs.Moves.{back}
 use borrow.Author.Needs.{needs}
-use Rattle.lookup.proofs.behind.Statement.{statement}
-use Rattle.lookup.proofs.behind.Tie as tie
+use Rattle.walks.proofs.behind.Statement.{statement}
+use Rattle.walks.proofs.behind.Tie as tie
 
 add-result : tie.Need-add-result
 add-result c = search needs

@@ -1,10 +1,10 @@
--- `lookup::around` meets its contract: `wrap`, by the same test.
+-- `walks::around` meets its contract: `wrap`, by the same test.
 use native.Mathlib.Omega.{arith}
 use borrow.Author.Needs.{needs}
 use borrow.Author.Tests.{lt-ltb, le-ltb}
 use Rattle.layout.specs.Moves.{wrap}
-use Rattle.lookup.proofs.around.Statement.{statement}
-use Rattle.lookup.proofs.around.Tie as tie
+use Rattle.walks.proofs.around.Statement.{statement}
+use Rattle.walks.proofs.around.Tie as tie
 
 add-if1 : tie.Need-add-if1
 add-if1 c = search needs

@@ -1,9 +1,9 @@
--- `lookup::home_slot` meets its contract: `homeOf`, by the same test.
+-- `walks::home_slot` meets its contract: `homeOf`, by the same test.
 use borrow.Author.Tests.{lt-ltb, le-ltb}
 use Rattle.layout.specs.Reading.{homeOf}
 use borrow.Author.Needs.{needs}
-use Rattle.lookup.proofs.home_slot.Statement.{statement}
-use Rattle.lookup.proofs.home_slot.Tie as tie
+use Rattle.walks.proofs.home_slot.Statement.{statement}
+use Rattle.walks.proofs.home_slot.Tie as tie
 
 behind-requires : tie.Need-behind-requires
 behind-requires c κs = search needs

@@ -1,11 +1,11 @@
--- `lookup::seek` meets its contract: the circle to the right of b is the part from b on and the part before b, walked one after the other.
+-- `walks::seek` meets its contract: the circle to the right of b is the part from b on and the part before b, walked one after the other.
 use mathlib.Core.Path.{refl, sym}
 use native.Mathlib.Omega.{arith}
 use lib.Seq.{length-take-le}
 use borrow.Author.Needs.{needs}
-use Rattle.lookup.proofs.Parts.{seek-near, seek-far, tail}
-use Rattle.lookup.proofs.seek.Statement.{statement}
-use Rattle.lookup.proofs.seek.Tie as tie
+use Rattle.walks.proofs.Parts.{seek-near, seek-far, tail}
+use Rattle.walks.proofs.seek.Statement.{statement}
+use Rattle.walks.proofs.seek.Tie as tie
 
 mul-skip-runs : tie.Need-mul-skip-runs
 mul-skip-runs c = search needs

@@ -1,11 +1,11 @@
--- `lookup::skip_runs` meets its contract: each turn takes the first entry off what is still to come, by the laws of `Skipping`.
+-- `walks::skip_runs` meets its contract: each turn takes the first entry off what is still to come, by the laws of `Skipping`.
 use mathlib.Core.Path.{refl}
 use Prim.Native.Nat.{_-_, _≤_}
 use native.Mathlib.Omega.{arith}
 use borrow.Author.Needs.{needs}
-use Rattle.lookup.proofs.Parts.{Skipping, skipping-start, skipping-found, skipping-on, skipping-end}
-use Rattle.lookup.proofs.skip_runs.Statement.{statement}
-use Rattle.lookup.proofs.skip_runs.Tie as tie
+use Rattle.walks.proofs.Parts.{Skipping, skipping-start, skipping-found, skipping-on, skipping-end}
+use Rattle.walks.proofs.skip_runs.Statement.{statement}
+use Rattle.walks.proofs.skip_runs.Tie as tie
 
 abbrev Inv-loop : tie.InvT-loop
 Inv-loop part m n togo₀ k₀ togo k = (k ≤ n) × Skipping part m k togo

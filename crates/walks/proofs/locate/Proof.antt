@@ -1,9 +1,9 @@
--- `lookup::locate` meets its contract: an entry at home begins its run; else the walk finds it.
+-- `walks::locate` meets its contract: an entry at home begins its run; else the walk finds it.
 use mathlib.Core.Path.{refl}
 use borrow.Author.Needs.{needs}
-use Rattle.lookup.proofs.Scans.{home-located, home-carried}
-use Rattle.lookup.proofs.locate.Statement.{statement}
-use Rattle.lookup.proofs.locate.Tie as tie
+use Rattle.walks.proofs.Homes.{home-located, home-carried}
+use Rattle.walks.proofs.locate.Statement.{statement}
+use Rattle.walks.proofs.locate.Tie as tie
 
 mul-if1 : tie.Need-mul-if1
 mul-if1 c = search needs

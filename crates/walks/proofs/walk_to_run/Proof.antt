@@ -1,10 +1,10 @@
--- `lookup::walk_to_run` meets its contract: the walk left counts the runs, and the walk right skips as many.
+-- `walks::walk_to_run` meets its contract: the walk left counts the runs, and the walk right skips as many.
 use mathlib.Core.Path.{_∙_}
 use native.Mathlib.Omega.{arith}
 use borrow.Author.Needs.{needs}
 use Rattle.layout.proofs.RunLaws.{located, carried}
-use Rattle.lookup.proofs.walk_to_run.Statement.{statement}
-use Rattle.lookup.proofs.walk_to_run.Tie as tie
+use Rattle.walks.proofs.walk_to_run.Statement.{statement}
+use Rattle.walks.proofs.walk_to_run.Tie as tie
 
 walk-home-requires : tie.Need-walk-home-requires
 walk-home-requires c κs = search needs

@@ -1,10 +1,10 @@
--- `lookup::walk_left` meets its contract: each turn takes the last word off what is still to come, by the laws of `Homing`.
+-- `walks::walk_left` meets its contract: each turn takes the last word off what is still to come, by the laws of `Homing`.
 use mathlib.Core.Path.{refl}
 use native.Mathlib.Omega.{arith}
 use borrow.Author.Needs.{needs}
-use Rattle.lookup.proofs.Parts.{Homing, homing-start, homing-stop, homing-on, homing-end}
-use Rattle.lookup.proofs.walk_left.Statement.{statement}
-use Rattle.lookup.proofs.walk_left.Tie as tie
+use Rattle.walks.proofs.Parts.{Homing, homing-start, homing-stop, homing-on, homing-end}
+use Rattle.walks.proofs.walk_left.Statement.{statement}
+use Rattle.walks.proofs.walk_left.Tie as tie
 
 abbrev Inv-loop : tie.InvT-loop
 Inv-loop part n m₀ i₀ m i = Homing part i m
