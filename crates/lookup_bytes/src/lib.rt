@@ -10,8 +10,8 @@ ghost use Rattle.layout.specs.Moves.{lefts, rights, isStart};
 ghost use Rattle.layout.specs.Reading.{runFrom};
 ghost use Rattle.lookup.specs.Spots.{First};
 ghost use Rattle.layout.specs.Bytes.{wordsOf};
-use walks::Home;
 use lookup::Match;
+use walks::Home;
 use walks::Skipped;
 
 // The byte at j.
