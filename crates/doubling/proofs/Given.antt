@@ -32,9 +32,9 @@ use Rattle.keeps.proofs.Hashes.{hashes-few}
 use Rattle.keeps.proofs.NewTable.{Sized, size-for}
 use Rattle.keeps.proofs.Double.{few₂}
 use Rattle.keeps.proofs.Doubled.{DoubleHad, number-had}
-use Rattle.doubling.specs.Arrivals.{Narrow, Size}
+use Rattle.arriving.specs.Arrivals.{Narrow, Size}
+use Rattle.arriving.proofs.Arrivals.{decode-get}
 use Rattle.doubling.specs.Accepted.{Accepted}
-use Rattle.doubling.proofs.Arrivals.{decode-get}
 
 few-places : (k : ℕ) (ps : List Place) → k < 20 → T (placesRight k 5 ps) → length ps < 15
 few-places k [] h t = omega arith

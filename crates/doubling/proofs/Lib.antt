@@ -1,10 +1,7 @@
 -- Laws of what Double writes.
-pub mod Arrivals
-pub mod Gathered
-pub mod Filled
 pub mod Stored
 pub mod Leaves
 pub mod Loops
-pub mod Whole
+pub mod Tabled
 pub mod Given
 pub mod Ruled

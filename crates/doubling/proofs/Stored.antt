@@ -12,9 +12,10 @@ use Rattle.lists.specs.Runs.{Runs, add, at}
 use Rattle.slots.specs.Payload.{restOf, fingerprintOf}
 use Rattle.rules.specs.Tables.{hashEntry}
 use Rattle.rules.specs.Doubling.{becomeVoid, newHashes, tableOf}
-use Rattle.doubling.specs.Arrivals.{Arrival, arrive, ofRun, ofRuns, newHash, hashArrival, stored}
-use Rattle.doubling.proofs.Arrivals.{arrive-length}
-use Rattle.doubling.proofs.Gathered.{comeTo, addAll, arrive-at, come-here, come-else}
+use Rattle.arriving.specs.Arrivals.{Arrival, arrive, ofRun, ofRuns}
+use Rattle.arriving.proofs.Arrivals.{arrive-length}
+use Rattle.arriving.proofs.Gathered.{comeTo, addAll, arrive-at, come-here, come-else}
+use Rattle.doubling.specs.NewHashes.{newHash, hashArrival, stored}
 
 -- ---- the new mother hashes, entry by entry
 

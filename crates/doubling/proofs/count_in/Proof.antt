@@ -7,8 +7,10 @@ use lib.ListN.{length, take}
 use borrow.Author.Needs.{needs}
 use Rattle.layout.specs.Decode.{runAt}
 use Rattle.layout.proofs.Searches.{true-lt, false-le}
-use Rattle.doubling.specs.Arrivals.{ofRun, newHash}
-use Rattle.doubling.proofs.Loops.{run-short, run-start, run-end, count-yes, count-no}
+use Rattle.arriving.specs.Arrivals.{ofRun}
+use Rattle.arriving.proofs.Loops.{run-short, run-start, run-end}
+use Rattle.doubling.specs.NewHashes.{newHash}
+use Rattle.doubling.proofs.Loops.{count-yes, count-no}
 use Rattle.doubling.proofs.count_in.Statement.{statement}
 use Rattle.doubling.proofs.count_in.Tie as tie
 

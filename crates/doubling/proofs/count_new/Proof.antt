@@ -5,8 +5,10 @@ use native.Mathlib.Omega.{arith}
 use lib.ListN.{length, take}
 use borrow.Author.Needs.{needs}
 use Rattle.layout.specs.Decode.{decode}
-use Rattle.doubling.specs.Arrivals.{ofRuns, newHash}
-use Rattle.doubling.proofs.Whole.{main-start, main-count, new-few, new-all}
+use Rattle.arriving.specs.Arrivals.{ofRuns}
+use Rattle.arriving.proofs.Whole.{main-start, main-count}
+use Rattle.doubling.specs.NewHashes.{newHash}
+use Rattle.doubling.proofs.Tabled.{new-few, new-all}
 use Rattle.doubling.proofs.count_new.Statement.{statement}
 use Rattle.doubling.proofs.count_new.Tie as tie
 

@@ -1,6 +1,7 @@
 -- The remainder by the power of two is the slot.
 use borrow.Author.Needs.{needs}
-use Rattle.doubling.proofs.Leaves.{finger, mod-small}
+use Rattle.arriving.proofs.Payloads.{finger}
+use Rattle.doubling.proofs.Leaves.{mod-small}
 use Rattle.doubling.proofs.hash_slot.Statement.{statement}
 use Rattle.doubling.proofs.hash_slot.Tie as tie
 

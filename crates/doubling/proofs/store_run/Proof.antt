@@ -6,8 +6,9 @@ use lib.ListN.{length, take}
 use borrow.Author.Needs.{needs}
 use Rattle.layout.specs.Decode.{runAt}
 use Rattle.layout.proofs.Searches.{true-lt, false-le}
-use Rattle.doubling.specs.Arrivals.{Arrived, ofRun, stored}
-use Rattle.doubling.proofs.Loops.{run-short, arrive-start, arrive-again, arrive-end}
+use Rattle.arriving.specs.Arrivals.{Arrived, ofRun}
+use Rattle.arriving.proofs.Loops.{run-short, arrive-start, arrive-again, arrive-end}
+use Rattle.doubling.specs.NewHashes.{stored}
 use Rattle.doubling.proofs.store_run.Statement.{statement}
 use Rattle.doubling.proofs.store_run.Tie as tie
 

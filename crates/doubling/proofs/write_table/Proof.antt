@@ -5,8 +5,10 @@ use native.Mathlib.Omega.{arith}
 use lib.ListN.{length, take, replicate}
 use borrow.Author.Needs.{needs}
 use Rattle.layout.specs.Decode.{decode}
-use Rattle.doubling.specs.Arrivals.{Arrived, ofRuns, stored}
-use Rattle.doubling.proofs.Whole.{main-none, main-arrive, main-end, table-done}
+use Rattle.arriving.specs.Arrivals.{Arrived, ofRuns}
+use Rattle.arriving.proofs.Whole.{main-none, main-arrive, main-end}
+use Rattle.doubling.specs.NewHashes.{stored}
+use Rattle.doubling.proofs.Tabled.{table-done}
 use Rattle.doubling.proofs.write_table.Statement.{statement}
 use Rattle.doubling.proofs.write_table.Tie as tie
 

@@ -1,8 +1,8 @@
 -- A payload of a width up to 26 fits a slot word.
 use borrow.Author.Needs.{needs}
-use Rattle.doubling.proofs.Leaves.{void-small}
-use Rattle.doubling.proofs.void_at.Statement.{statement}
-use Rattle.doubling.proofs.void_at.Tie as tie
+use Rattle.arriving.proofs.Payloads.{void-small}
+use Rattle.arriving.proofs.void_at.Statement.{statement}
+use Rattle.arriving.proofs.void_at.Tie as tie
 
 void-of-requires : tie.Need-void-of-requires
 void-of-requires c κs = search needs

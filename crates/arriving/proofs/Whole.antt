@@ -13,13 +13,11 @@ use Rattle.lists.proofs.RunLaws.{Rises, rising-rises, total-none}
 use Rattle.layout.specs.Machine.{layout}
 use Rattle.layout.specs.Decode.{decode, runAt}
 use Rattle.layout.proofs.Keeps.{layout-none}
-use Rattle.rules.specs.Doubling.{doubled, newHashes, tableOf}
+use Rattle.rules.specs.Doubling.{doubled}
 use Rattle.keeps.proofs.Holds.{length-decode}
-use Rattle.keeps.proofs.Hashes.{hashes-few}
-use Rattle.doubling.specs.Arrivals.{Arrival, arrive, Arrived, Narrow, ofRun, ofRuns, halves, newHash, stored}
-use Rattle.doubling.proofs.Arrivals.{arrived-none, arrived-both, runs-more, runs-part, decode-get}
-use Rattle.doubling.proofs.Filled.{filled-total, filled}
-use Rattle.doubling.proofs.Stored.{all-hashes, all-stored, stored-length, tabled}
+use Rattle.arriving.specs.Arrivals.{Arrival, arrive, Arrived, Narrow, ofRun, ofRuns, halves}
+use Rattle.arriving.proofs.Arrivals.{arrived-none, arrived-both, runs-more, runs-part, decode-get}
+use Rattle.arriving.proofs.Filled.{filled-total, filled}
 
 -- ---- one address more
 
@@ -52,19 +50,9 @@ pub main-arrive : (f : ℕ → ℕ → List Arrival) (main : List ℕ) (c : ℕ)
     → Arrived y z (ofRun (f c) (runAt main c)) → Arrived x z (ofRuns f 0 (take (c + 1) (decode main)))
 main-arrive f main c x y z h p q = rw (main-more f main c h) (arrived-both x y z (ofRuns f 0 (take c (decode main))) (ofRun (f c) (runAt main c)) p q)
 
--- ---- the new mother hashes
-
-pub new-few : (w : ℕ) (main : List ℕ) (c m x : ℕ) → c < length main → total (decode main) ≤ 1048576 → m ≡ length (ofRuns (newHash w 0) 0 (take c (decode main)))
-    → x ≡ length (ofRun (newHash w 0 c) (runAt main c)) → m + x ≤ 1048576
-new-few w main c m x h t em ex =
-    omega (arith, main-part (newHash w 0) main c m x h em ex, ap length (all-hashes w 0 0 (decode main)), hashes-few w 0 0 (decode main))
-
-pub new-all : (w k : ℕ) (main : List ℕ) (c m : ℕ) → length main ≤ c → m ≡ length (ofRuns (newHash w k) 0 (take c (decode main))) → m ≡ length (newHashes w k 0 (decode main))
-new-all w k main c m h e = e ∙ ap length (main-end (newHash w k) main c h ∙ all-hashes w k 0 (decode main))
-
 -- ---- what has arrived in an empty table
 
-in-empty : (n : ℕ) (ws : List ℕ) (es : List Arrival) → length es < n → Arrived (replicate n 0) ws es → ws ≡ layout (arrive es (replicate n []))
+pub in-empty : (n : ℕ) (ws : List ℕ) (es : List Arrival) → length es < n → Arrived (replicate n 0) ws es → ws ≡ layout (arrive es (replicate n []))
 unfolding Arrived
 in-empty n ws es h f =
     f (replicate n []) (sym (layout-none n)) (omega (arith, total-none n, length-replicate {A = List ℕ} n []))
@@ -87,10 +75,3 @@ second-done main second w v n en na w1 wv ri few ar =
 
 pub used-done : (main : List ℕ) (w v n c used : ℕ) → length main ≤ c → used ≡ length (ofRuns (halves w v n) 0 (take c (decode main))) → used ≡ total (doubled w v (decode main))
 used-done main w v n c used h e = e ∙ ap length (main-end (halves w v n) main c h) ∙ filled-total w v n (decode main)
-
-pub table-done : (main part : List ℕ) (w k s : ℕ) → length (newHashes w k 0 (decode main)) < 2 ^ s → Arrived (replicate (2 ^ s) 0) part (ofRuns (stored w k s) 0 (decode main))
-    → part ≡ layout (tableOf (k + 1) s (newHashes w k 0 (decode main)))
-table-done main part w k s few ar =
-    let rs : Runs = decode main in
-    in-empty (2 ^ s) part (ofRuns (stored w k s) 0 rs) (omega (arith, stored-length w k s rs)) ar
-    ∙ ap (λ (l : List Arrival). layout (arrive l (replicate (2 ^ s) []))) (all-stored w k s rs) ∙ ap layout (tabled (k + 1) s (newHashes w k 0 rs))

@@ -6,10 +6,10 @@ use lib.ListN.{length, take}
 use borrow.Author.Needs.{needs}
 use Rattle.layout.specs.Decode.{runAt}
 use Rattle.layout.proofs.Searches.{true-lt, false-le}
-use Rattle.doubling.specs.Arrivals.{Arrived, ofRun, halves}
-use Rattle.doubling.proofs.Loops.{run-short, run-start, run-end, run-count, arrive-start, arrive-again, arrive-end}
-use Rattle.doubling.proofs.send_run.Statement.{statement}
-use Rattle.doubling.proofs.send_run.Tie as tie
+use Rattle.arriving.specs.Arrivals.{Arrived, ofRun, halves}
+use Rattle.arriving.proofs.Loops.{run-short, run-start, run-end, run-count, arrive-start, arrive-again, arrive-end}
+use Rattle.arriving.proofs.send_run.Statement.{statement}
+use Rattle.arriving.proofs.send_run.Tie as tie
 
 abbrev Inv-loop : tie.InvT-loop
 Inv-loop main second₀ c w v n b f used₀ t₀ second used t =

@@ -1,9 +1,9 @@
 -- The remainder by the power of two is the definition.
 use Prim.Native.Nat.{_-_}
 use borrow.Author.Needs.{needs}
-use Rattle.doubling.proofs.Leaves.{finger}
-use Rattle.doubling.proofs.fingerprint.Statement.{statement}
-use Rattle.doubling.proofs.fingerprint.Tie as tie
+use Rattle.arriving.proofs.Payloads.{finger}
+use Rattle.arriving.proofs.fingerprint.Statement.{statement}
+use Rattle.arriving.proofs.fingerprint.Tie as tie
 
 sub-pow2 : tie.Need-sub-pow2
 sub-pow2 c = search needs

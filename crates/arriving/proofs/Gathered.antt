@@ -12,7 +12,7 @@ use borrow.Author.Tests.{eq-eqb, ne-eqb}
 use Rattle.lists.specs.Runs.{Runs, add, at}
 use Rattle.lists.proofs.Alls.{All}
 use Rattle.lists.proofs.RunLaws.{Rises, add-here, add-swap}
-use Rattle.doubling.specs.Arrivals.{Arrival, arrival, arrive, ofRun, ofRuns}
+use Rattle.arriving.specs.Arrivals.{Arrival, arrival, arrive, ofRun, ofRuns}
 
 -- the payloads of those that arrive at address a
 unfoldable pub comeTo : ℕ → List Arrival → List ℕ

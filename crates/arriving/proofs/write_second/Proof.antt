@@ -5,11 +5,11 @@ use native.Mathlib.Omega.{arith}
 use lib.ListN.{length, take, replicate}
 use borrow.Author.Needs.{needs}
 use Rattle.layout.specs.Decode.{decode}
-use Rattle.doubling.specs.Arrivals.{Arrived, ofRuns, halves}
-use Rattle.doubling.proofs.Filled.{filled-total}
-use Rattle.doubling.proofs.Whole.{main-start, main-count, main-part, main-none, main-arrive, main-end, second-done, used-done}
-use Rattle.doubling.proofs.write_second.Statement.{statement}
-use Rattle.doubling.proofs.write_second.Tie as tie
+use Rattle.arriving.specs.Arrivals.{Arrived, ofRuns, halves}
+use Rattle.arriving.proofs.Filled.{filled-total}
+use Rattle.arriving.proofs.Whole.{main-start, main-count, main-part, main-none, main-arrive, main-end, second-done, used-done}
+use Rattle.arriving.proofs.write_second.Statement.{statement}
+use Rattle.arriving.proofs.write_second.Tie as tie
 
 abbrev Inv-loop : tie.InvT-loop
 Inv-loop main second₀ w v n used₀ c₀ second used c =

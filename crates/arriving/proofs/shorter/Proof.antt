@@ -2,9 +2,9 @@
 use Prim.Native.Nat.{_-_, _/_}
 use native.Mathlib.Omega.{arith}
 use borrow.Author.Needs.{needs}
-use Rattle.doubling.proofs.Leaves.{halved, pay-small}
-use Rattle.doubling.proofs.shorter.Statement.{statement}
-use Rattle.doubling.proofs.shorter.Tie as tie
+use Rattle.arriving.proofs.Payloads.{halved, pay-small}
+use Rattle.arriving.proofs.shorter.Statement.{statement}
+use Rattle.arriving.proofs.shorter.Tie as tie
 
 sub-encode : tie.Need-sub-encode
 sub-encode c = search needs

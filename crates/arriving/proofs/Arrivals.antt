@@ -12,7 +12,7 @@ use Rattle.lists.specs.Runs.{Runs, add, at, total}
 use Rattle.lists.proofs.RunLaws.{length-add, total-set}
 use Rattle.layout.specs.Machine.{layout}
 use Rattle.layout.specs.Decode.{decode, runAt, runsFrom}
-use Rattle.doubling.specs.Arrivals.{Arrival, arrival, arrive, Arrived, ofRun, ofRuns}
+use Rattle.arriving.specs.Arrivals.{Arrival, arrival, arrive, Arrived, ofRun, ofRuns}
 
 pub arrive-append : (es bs : List Arrival) (rs : Runs) → arrive (es ++ bs) rs ≡ arrive bs (arrive es rs)
 unfolding arrive

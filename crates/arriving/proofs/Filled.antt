@@ -14,9 +14,9 @@ use Rattle.lists.proofs.RunLaws.{Rises}
 use Rattle.layout.proofs.Laws.{total-append}
 use Rattle.rules.specs.Doubling.{half, halfRun, doubled}
 use Rattle.keeps.proofs.Halves.{getD-half, half-rises}
-use Rattle.doubling.specs.Arrivals.{Arrival, arrival, arrive, ofRun, ofRuns, halves}
-use Rattle.doubling.proofs.Arrivals.{arrive-length}
-use Rattle.doubling.proofs.Gathered.{comeTo, addAll, add-rising, arrive-at, come-same, come-other, come-pair, runs-to}
+use Rattle.arriving.specs.Arrivals.{Arrival, arrival, arrive, ofRun, ofRuns, halves}
+use Rattle.arriving.proofs.Arrivals.{arrive-length}
+use Rattle.arriving.proofs.Gathered.{comeTo, addAll, add-rising, arrive-at, come-same, come-other, come-pair, runs-to}
 
 half-run : (w v t : ℕ) (run : List ℕ) → ofRun (half w v t) run ≡ halfRun w v t run
 unfolding ofRun halfRun

@@ -3,9 +3,9 @@ use Prim.Native.Nat.{_≤_}
 use native.Mathlib.Omega.{arith}
 use borrow.Author.Needs.{needs}
 use Rattle.slots.proofs.PayloadLaws.{rest-le}
-use Rattle.doubling.proofs.Loops.{sent-none, sent-void, sent-low, sent-high}
-use Rattle.doubling.proofs.send.Statement.{statement}
-use Rattle.doubling.proofs.send.Tie as tie
+use Rattle.arriving.proofs.Loops.{sent-none, sent-void, sent-low, sent-high}
+use Rattle.arriving.proofs.send.Statement.{statement}
+use Rattle.arriving.proofs.send.Tie as tie
 
 rest-of-requires : tie.Need-rest-of-requires
 rest-of-requires c κs = search needs

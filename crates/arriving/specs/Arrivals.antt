@@ -3,13 +3,12 @@
 -- new annex table, each at an address and with a payload.
 use mathlib.Core.Path.{_≡_}
 use mathlib.Core.List.{List, [], _∷_, _++_, map}
-use Prim.Native.Nat.{ℕ, suc, _+_, _%_, _^_, _≤_, _<_}
+use Prim.Native.Nat.{ℕ, suc, _+_, _^_, _≤_, _<_}
 use lib.ListN.{length, getD}
 use Rattle.lists.specs.Runs.{Runs, add, at, total}
 use Rattle.layout.specs.Machine.{layout}
 use Rattle.layout.specs.Decode.{runAt}
-use Rattle.rules.specs.Tables.{hashEntry}
-use Rattle.rules.specs.Doubling.{half, becomeVoid}
+use Rattle.rules.specs.Doubling.{half}
 
 pub record Arrival : Type 0 where
   pub address : ℕ
@@ -46,17 +45,6 @@ pub record Sent (w v n c p : ℕ) (before after : List ℕ) (more : ℕ) : Type 
   pub arrived : Arrived before after (halves w v n c p)
   pub counted : more ≡ length (halves w v n c p)
   pub few : more ≤ 2
-
--- its new mother hash, if it becomes void: main has 2^k slots
-unfoldable pub newHash : ℕ → ℕ → ℕ → ℕ → List ℕ
-newHash w k c p = becomeVoid w k c (p ∷ [])
-
--- and that hash in a table of 2^s slots
-abbrev pub hashArrival : ℕ → ℕ → ℕ → Arrival
-hashArrival b s m = arrival (m % 2 ^ s) (hashEntry b s m)
-
-unfoldable pub stored : ℕ → ℕ → ℕ → ℕ → ℕ → List Arrival
-stored w k s c p = map (hashArrival (k + 1) s) (newHash w k c p)
 
 -- a table has 2 to 2^20 slots
 abbrev pub Size : List ℕ → Type 0

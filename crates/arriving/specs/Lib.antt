@@ -1,0 +1,2 @@
+-- What Double sends to the second main, entry by entry.
+pub mod Arrivals
