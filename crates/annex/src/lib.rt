@@ -64,5 +64,5 @@ pub fn take_hash(annex: &mut [u32], places: [Place; 15], i: usize, c: u32) -> [P
     let slot = hash_slot(p.s, c);
     let entry = hash_entry(p.b, p.s, c);
     table::remove(&mut annex[at..end], slot, entry);
-    directory::with_count(places, i, p.count - 1)
+    places::with_count(places, i, p.count - 1)
 }

@@ -15,8 +15,7 @@ use Rattle.lists.proofs.Alls.{All, all-get, all-map, every-all}
 use Rattle.lists.proofs.Sums.{sum-append}
 use Rattle.slots.specs.Numbers.{limit}
 use Rattle.directory.specs.declared.Place.{Place}
-use Rattle.directory.specs.Places.{noPlace, taken, placesInUse, placesNotInUse, placesRight, zeroPlace, directoryRight, wordsTaken, partIn, offsetIn, keep, trim, fifteen}
-use Rattle.directory.specs.Lookup.{other}
+use Rattle.directory.specs.Places.{noPlace, taken, other, placesInUse, placesNotInUse, placesRight, zeroPlace, directoryRight, wordsTaken, partIn, offsetIn, keep, trim, fifteen}
 use Rattle.directory.proofs.Front.{front-behind, front-length, front-all, front-append, behind-append, front-set, behind-set}
 
 -- ---- a right directory

@@ -1,3 +1,2 @@
 -- The annex directory.
 pub mod Places
-pub mod Lookup

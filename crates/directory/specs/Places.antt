@@ -39,6 +39,10 @@ directoryRight k ps = placesRight k 5 (placesInUse ps) && every zeroPlace (place
 unfoldable pub wordsTaken : List Place → ℕ
 wordsTaken ps = sum (λ (p : Place). 2 ^ p .s) ps
 
+-- the table at a place has not length b
+abbrev pub other : ℕ → Place → Bool
+other b p = not (eqb b (p .b))
+
 -- "the words of the annex table of one length", of tables that follow one another; none if there is no such table
 unfoldable pub partIn : ℕ → List Place → List ℕ → List ℕ
 partIn b [] annex = []

@@ -195,6 +195,6 @@ pub fn double(
         s,
         count: n,
     };
-    let more = directory::with_place(places, p);
+    let more = places::with_place(places, p);
     Doubled { used, places: more }
 }

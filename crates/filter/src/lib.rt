@@ -544,7 +544,7 @@ impl Record {
             let dir = self.dir;
             let n = directory::places_in_use(dir);
             if directory::words_taken(dir, n) <= annex.len() {
-                return directory::part(annex, dir, b);
+                return places::part(annex, dir, b);
             }
             return &annex[0..0];
         }

@@ -143,7 +143,7 @@ pub fn settle(
     let left = s.used;
     let dir = s.places;
     let gone = take_tombstones(main, queue, w, queued);
-    let kept = directory::trimmed(dir);
+    let kept = places::trimmed(dir);
     Settled {
         used: left - gone,
         places: kept,

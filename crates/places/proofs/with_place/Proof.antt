@@ -1,8 +1,8 @@
 -- `with_place` meets its contract: the first place that is not in use is replaced, and those after it are zero.
 use borrow.Author.Needs.{needs}
-use Rattle.directory.proofs.Loops.{add-table}
-use Rattle.directory.proofs.with_place.Statement.{statement}
-use Rattle.directory.proofs.with_place.Tie as tie
+use Rattle.places.proofs.Loops.{add-table}
+use Rattle.places.proofs.with_place.Statement.{statement}
+use Rattle.places.proofs.with_place.Tie as tie
 
 places-in-use-requires : tie.Need-places-in-use-requires
 places-in-use-requires c κs = search needs

@@ -2,17 +2,12 @@
 -- if the directory has none."
 use Prim.Native.Nat.{ℕ, _≤_, _<_}
 use mathlib.Core.Path.{_≡_}
-use mathlib.Core.Bool.{Bool, not}
 use mathlib.Core.List.{List}
-use lib.Dec.{T, eqb}
+use lib.Dec.{T}
 use lib.ListN.{length, getD, take}
 use Rattle.lists.specs.Lists.{every}
 use Rattle.directory.specs.declared.Place.{Place}
-use Rattle.directory.specs.Places.{noPlace}
-
--- the table at a place has not length b
-abbrev pub other : ℕ → Place → Bool
-other b p = not (eqb b (p .b))
+use Rattle.directory.specs.Places.{noPlace, other}
 
 -- place i of these is the first of length b, or there is none and i is 15
 pub record PlaceOf (b : ℕ) (ps : List Place) (i : ℕ) : Type 0 where

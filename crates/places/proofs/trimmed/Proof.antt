@@ -1,10 +1,10 @@
 -- `trimmed` drops one empty table after the other: what is left of the tables in use are the first i of them, and trimming these is trimming all.
 use Prim.Native.Nat.{_≤_}
 use borrow.Author.Needs.{needs}
 use Rattle.directory.specs.Places.{placesInUse}
-use Rattle.directory.proofs.Loops.{Left, left-start, left-stop, left-again, left-end}
-use Rattle.directory.proofs.trimmed.Statement.{statement}
-use Rattle.directory.proofs.trimmed.Tie as tie
+use Rattle.places.proofs.Loops.{Left, left-start, left-stop, left-again, left-end}
+use Rattle.places.proofs.trimmed.Statement.{statement}
+use Rattle.places.proofs.trimmed.Tie as tie
 
 abbrev Inv-loop : tie.InvT-loop
 Inv-loop places₀ i₀ places i = (i ≤ 15) × Left (placesInUse places₀) places i

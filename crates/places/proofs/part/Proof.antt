@@ -1,9 +1,9 @@
 -- `part` meets its contract: the words of the tables before place i are skipped, and that of place i ends within the words of all tables.
 use native.Mathlib.Omega.{arith}
 use borrow.Author.Needs.{needs}
-use Rattle.directory.proofs.Loops.{place-low, part-nothing, part-ends, part-found, part-lies}
-use Rattle.directory.proofs.part.Statement.{statement}
-use Rattle.directory.proofs.part.Tie as tie
+use Rattle.places.proofs.Loops.{place-low, part-nothing, part-ends, part-found, part-lies}
+use Rattle.places.proofs.part.Statement.{statement}
+use Rattle.places.proofs.part.Tie as tie
 
 place-of-requires : tie.Need-place-of-requires
 place-of-requires c κs = search needs

@@ -4,11 +4,10 @@ use borrow.Author.Needs.{needs}
 use lib.ListN.{take}
 use lib.Dec.{T}
 use Rattle.lists.specs.Lists.{every}
-use Rattle.directory.specs.Places.{placesInUse}
-use Rattle.directory.specs.Lookup.{other}
-use Rattle.directory.proofs.Loops.{place-start, place-found, place-again, place-none}
-use Rattle.directory.proofs.place_of.Statement.{statement}
-use Rattle.directory.proofs.place_of.Tie as tie
+use Rattle.directory.specs.Places.{placesInUse, other}
+use Rattle.places.proofs.Loops.{place-start, place-found, place-again, place-none}
+use Rattle.places.proofs.place_of.Statement.{statement}
+use Rattle.places.proofs.place_of.Tie as tie
 
 abbrev Inv-loop : tie.InvT-loop
 Inv-loop b places n i₀ i = (i ≤ n) × T (every (other b) (take i (placesInUse places)))

@@ -1,0 +1,2 @@
+-- Laws of single places of the annex directory.
+pub mod Loops

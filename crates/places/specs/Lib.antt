@@ -1,0 +1,2 @@
+-- The place of the table of one length.
+pub mod Lookup
