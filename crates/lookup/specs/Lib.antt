@@ -1,2 +1,2 @@
--- What reading one table finds, and a table kept as bytes.
+-- What a search in the run of an address finds.
 pub mod Spots
