@@ -9,15 +9,15 @@ use lib.Pow.{pow_pos, pow_mono}
 use lib.ListN.{length, get_or}
 use Rattle.lists.specs.Runs.{count}
 use Rattle.slots.specs.Payload.{pay}
-use Rattle.layout.specs.Decode.{run_at, runsFrom, decode}
-use Rattle.rules.specs.Tables.{hashEntry, matching}
+use Rattle.layout.specs.Decode.{run_at, runs_from, decode}
+use Rattle.rules.specs.Tables.{hash_entry, matching}
 use Rattle.keeps.proofs.Mothers.{hash-fits}
 use Rattle.annex.specs.Stored.{table_of}
 
 pub entry-fits : (b s c p y : ℕ) → s < b → p ≡ 2 ^ b → y ≡ 2 ^ s → c % p / y < 2 ^ (b - s)
 entry-fits b s c p y h e f = rw (e, f) (hash-fits b s (c % 2 ^ b) (omega arith) (mod-lt c (pow_pos b)))
 
-pub entry-is : (b s c p y r : ℕ) → p ≡ 2 ^ b → y ≡ 2 ^ s → r ≡ pay 18 (b - s) (c % p / y) → r ≡ hashEntry b s (c % 2 ^ b)
+pub entry-is : (b s c p y r : ℕ) → p ≡ 2 ^ b → y ≡ 2 ^ s → r ≡ pay 18 (b - s) (c % p / y) → r ≡ hash_entry b s (c % 2 ^ b)
 entry-is b s c p y r e f g = g ∙ ap₂ (λ (m n : ℕ). pay 18 (b - s) (c % m / n)) e f
 
 pub slot_is : (s c p r : ℕ) → p ≡ 2 ^ s → r ≡ c % p → (r ≡ c % 2 ^ s) × (r < 2 ^ s)
@@ -36,8 +36,8 @@ pub size-8 : (s : ℕ) → 3 ≤ s → 8 ≤ 2 ^ s
 size-8 s h = pow_mono {i = 3} {j = s} h
 
 -- the run that is read is the run that is decoded
-from_at : (words : List ℕ) (c n i : ℕ) → i < n → get_or (runsFrom words c n) i [] ≡ run_at words (c + i)
-unfolding runsFrom
+from_at : (words : List ℕ) (c n i : ℕ) → i < n → get_or (runs_from words c n) i [] ≡ run_at words (c + i)
+unfolding runs_from
 from_at words c zero i h = absurd (omega arith)
 from_at words c (suc n) zero h = let e : c ≡ c + 0 = omega arith in ap (run_at words) e
 from_at words c (suc n) (suc i) h = let e : suc c + i ≡ c + suc i = omega arith in from_at words (suc c) n i (omega arith) ∙ ap (run_at words) e
@@ -46,7 +46,7 @@ pub decode-at : (words : List ℕ) (i : ℕ) → i < length words → get_or (de
 unfolding decode
 decode-at words i h = let e : 0 + i ≡ i = omega arith in from_at words 0 (length words) i h ∙ ap (run_at words) e
 
-pub matching-read : (words : List ℕ) (b s c slot x r : ℕ) → slot ≡ c % 2 ^ s → x ≡ hashEntry b s (c % 2 ^ b) → slot < length words → r ≡ count x (run_at words slot)
+pub matching-read : (words : List ℕ) (b s c slot x r : ℕ) → slot ≡ c % 2 ^ s → x ≡ hash_entry b s (c % 2 ^ b) → slot < length words → r ≡ count x (run_at words slot)
     → r ≡ matching c (table_of b s words)
 unfolding matching
 matching-read words b s c slot x r e f h g =

@@ -15,65 +15,65 @@ use Rattle.lists.proofs.RunLaws.{Rises, rises-rising, erase_same, total-set}
 use Rattle.slots.proofs.NumberLaws.{limit-lt}
 use Rattle.layout.specs.Machine.{layout}
 use Rattle.directory.specs.declared.Place.{Place}
-use Rattle.directory.specs.Places.{noPlace, taken, placesInUse, wordsTaken}
+use Rattle.directory.specs.Places.{no_place, taken, places_in_use, words_taken}
 use Rattle.directory.proofs.Front.{front-get}
 use Rattle.directory.proofs.Laws.{right-used, words-cons, words-none}
-use Rattle.rules.specs.Tables.{Table, hashEntry, matching, tableWords, place_of}
+use Rattle.rules.specs.Tables.{Table, hash_entry, matching, table_words, place_of}
 use Rattle.keeps.proofs.Holds.{length-words}
 use Rattle.keeps.proofs.Annex.{TableFine, Tables, table-holds, Read, read, words_append}
 use Rattle.keeps.proofs.Take.{table-inside, slot_lt}
-use Rattle.annex.specs.Stored.{noTable, stored, without, FoundAt, TakenAt}
+use Rattle.annex.specs.Stored.{no_table, stored, without, FoundAt, TakenAt}
 use Rattle.annex.proofs.Search.{tables-length}
 
 -- the words of the tables before place i
-before-long : (k last : ℕ) (ts : List Table) (i : ℕ) → Tables k last ts → length (tableWords (take i ts)) ≡ wordsTaken (take i (map place_of ts))
-unfolding tableWords place_of
+before-long : (k last : ℕ) (ts : List Table) (i : ℕ) → Tables k last ts → length (table_words (take i ts)) ≡ words_taken (take i (map place_of ts))
+unfolding table_words place_of
 before-long k last [] zero v = sym words-none
 before-long k last [] (suc i) v = sym words-none
 before-long k last (t ∷ ts) zero v = sym words-none
 before-long k last (t ∷ ts) (suc i) v =
-    length-append (layout t.runs) (tableWords (take i ts))
+    length-append (layout t.runs) (table_words (take i ts))
     ∙ ap₂ ◌+◌ (length-words (table-holds v.0)) (before-long k t.b ts i v.1)
     ∙ sym (words-cons (place_of t) (take i (map place_of ts)))
 
 -- one table among others, at its words
 module _ (before : List Table) (t : Table) (after : List Table) (rest : List ℕ) where
   abbrev pub all : List ℕ
-  all = tableWords (before ++ t ∷ after) ++ rest
+  all = table_words (before ++ t ∷ after) ++ rest
 
-  words-mid : all ≡ tableWords before ++ (layout t.runs ++ (tableWords after ++ rest))
-  unfolding tableWords
+  words-mid : all ≡ table_words before ++ (layout t.runs ++ (table_words after ++ rest))
+  unfolding table_words
   words-mid =
       ap (λ (l : List ℕ). l ++ rest) (words_append before (t ∷ after))
-      ∙ append_assoc (tableWords before) (layout t.runs ++ tableWords after) rest
-      ∙ ap (λ (l : List ℕ). tableWords before ++ l) (append_assoc (layout t.runs) (tableWords after) rest)
+      ∙ append_assoc (table_words before) (layout t.runs ++ table_words after) rest
+      ∙ ap (λ (l : List ℕ). table_words before ++ l) (append_assoc (layout t.runs) (table_words after) rest)
 
-module _ (before : List Table) (t : Table) (after : List Table) (rest : List ℕ) (a n : ℕ) (ea : length (tableWords before) ≡ a) (en : length (layout t.runs) ≡ n) where
-  from : drop a (all before t after rest) ≡ layout t.runs ++ (tableWords after ++ rest)
-  from = ap (drop a) (words-mid before t after rest) ∙ drop_at (tableWords before) (layout t.runs ++ (tableWords after ++ rest)) a ea
+module _ (before : List Table) (t : Table) (after : List Table) (rest : List ℕ) (a n : ℕ) (ea : length (table_words before) ≡ a) (en : length (layout t.runs) ≡ n) where
+  from : drop a (all before t after rest) ≡ layout t.runs ++ (table_words after ++ rest)
+  from = ap (drop a) (words-mid before t after rest) ∙ drop_at (table_words before) (layout t.runs ++ (table_words after ++ rest)) a ea
 
   words-get : take n (drop a (all before t after rest)) ≡ layout t.runs
-  words-get = ap (take n) from ∙ take_at (layout t.runs) (tableWords after ++ rest) n en
+  words-get = ap (take n) from ∙ take_at (layout t.runs) (table_words after ++ rest) n en
 
   words-put : (u : Table) → put_mid a n (all before t after rest) (layout u.runs) ≡ all before u after rest
   words-put u =
       ap₂ (λ (x y : List ℕ). x ++ (layout u.runs ++ y))
-      (ap (take a) (words-mid before t after rest) ∙ take_at (tableWords before) (layout t.runs ++ (tableWords after ++ rest)) a ea)
-      (ap (drop n) from ∙ drop_at (layout t.runs) (tableWords after ++ rest) n en)
+      (ap (take a) (words-mid before t after rest) ∙ take_at (table_words before) (layout t.runs ++ (table_words after ++ rest)) a ea)
+      (ap (drop n) from ∙ drop_at (layout t.runs) (table_words after ++ rest) n en)
       ∙ sym (words-mid before u after rest)
 
 module _ (places : List Place) (annex : List ℕ) (i c : ℕ) (h : FoundAt places annex i c) where
   abbrev ps : List Place
-  ps = placesInUse places
+  ps = places_in_use places
 
   abbrev ts : List Table
   ts = stored places annex
 
   abbrev t : Table
-  t = get_or ts i noTable
+  t = get_or ts i no_table
 
   abbrev rest : List ℕ
-  rest = drop (wordsTaken ps) annex
+  rest = drop (words_taken ps) annex
 
   is_read : Read 20 5 ps annex
   is_read = read 20 5 ps annex (right-used 20 places h.placed.directory) h.right h.placed.long
@@ -82,20 +82,20 @@ module _ (places : List Place) (annex : List ℕ) (i c : ℕ) (h : FoundAt place
   inside = omega (arith, h.inside, tables-length ps annex)
 
   split : ts ≡ take i ts ++ t ∷ drop (suc i) ts
-  split = split_at ts i noTable inside
+  split = split_at ts i no_table inside
 
   pub is-fine : TableFine 20 5 t
   is-fine = table-inside 20 5 (take i ts) t (drop (suc i) ts) (subst (Tables 20 5) split is_read.are)
 
   words : annex ≡ all (take i ts) t (drop (suc i) ts) rest
-  words = is_read.words ∙ ap (λ (l : List Table). tableWords l ++ rest) split
+  words = is_read.words ∙ ap (λ (l : List Table). table_words l ++ rest) split
 
-  place_is : place_of t ≡ get_or places i noPlace
+  place_is : place_of t ≡ get_or places i no_place
   unfolding place_of total
   place_is =
-      sym (get_or-map place_of ts i noTable)
-      ∙ ap (λ (l : List Place). get_or l i noPlace) is_read.of
-      ∙ front-get taken places i noPlace h.inside
+      sym (get_or-map place_of ts i no_table)
+      ∙ ap (λ (l : List Place). get_or l i no_place) is_read.of
+      ∙ front-get taken places i no_place h.inside
 
   pub few : total t.runs < length t.runs
   few = omega (arith, is-fine.fits, is-fine.size, limit-lt t.s)
@@ -106,25 +106,25 @@ module _ (places : List Place) (annex : List ℕ) (i c : ℕ) (h : FoundAt place
   one_less : total (without t c).runs + 1 ≡ total t.runs
   unfolding matching
   one_less =
-      let x : ℕ = hashEntry t.b t.s (c % 2 ^ t.b) in
+      let x : ℕ = hash_entry t.b t.s (c % 2 ^ t.b) in
       let run : List ℕ = get_or t.runs (c % 2 ^ t.s) [] in
       omega (arith, total-set t.runs (c % 2 ^ t.s) (erase x run) (slot_lt 20 5 c t is-fine), same_length run (x ∷ erase x run) (erase_same x run h.match))
 
-  pub some : 1 ≤ (get_or places i noPlace).count
+  pub some : 1 ≤ (get_or places i no_place).count
   unfolding place_of
   some = omega (arith, one_less, ap (λ (p : Place). p.count) place_is)
 
   -- one less in the directory
-  count_left : place_of (without t c) ≡ record { b = (get_or places i noPlace).b; s = (get_or places i noPlace).s; count = (get_or places i noPlace).count - 1 }
+  count_left : place_of (without t c) ≡ record { b = (get_or places i no_place).b; s = (get_or places i no_place).s; count = (get_or places i no_place).count - 1 }
   unfolding place_of
   count_left =
       let e : total (without t c).runs ≡ total t.runs - 1 = omega (arith, one_less) in
       ap (λ (n : ℕ). record { b = t.b; s = t.s; count = n }) e ∙ ap (λ (p : Place). record { b = p.b; s = p.s; count = p.count - 1 }) place_is
 
   -- the code's numbers: where the table begins, its words, and where it ends
-  module _ (a n e : ℕ) (ea : a ≡ wordsTaken (take i ps)) (en : n ≡ 2 ^ (get_or places i noPlace).s) (ee : e ≡ a + n) where
-    starts : length (tableWords (take i ts)) ≡ a
-    starts = before-long 20 5 ts i is_read.are ∙ ap (λ (l : List Place). wordsTaken (take i l)) is_read.of ∙ sym ea
+  module _ (a n e : ℕ) (ea : a ≡ words_taken (take i ps)) (en : n ≡ 2 ^ (get_or places i no_place).s) (ee : e ≡ a + n) where
+    starts : length (table_words (take i ts)) ≡ a
+    starts = before-long 20 5 ts i is_read.are ∙ ap (λ (l : List Place). words_taken (take i l)) is_read.of ∙ sym ea
 
     size : 2 ^ t.s ≡ n
     unfolding place_of
@@ -136,26 +136,26 @@ module _ (places : List Place) (annex : List ℕ) (i c : ℕ) (h : FoundAt place
     pub table-laid : take (e - a) (drop a annex) ≡ layout t.runs
     table-laid = ap (λ (l : List ℕ). take (e - a) (drop a l)) words ∙ words-get (take i ts) t (drop (suc i) ts) rest a (e - a) starts long
 
-    pub words_left : (part : List ℕ) → part ≡ layout (without t c).runs → put_mid a (e - a) annex part ≡ tableWords (set ts i (without t c)) ++ rest
+    pub words_left : (part : List ℕ) → part ≡ layout (without t c).runs → put_mid a (e - a) annex part ≡ table_words (set ts i (without t c)) ++ rest
     words_left part q =
         ap₂ (λ (l m : List ℕ). put_mid a (e - a) l m) words q
         ∙ words-put (take i ts) t (drop (suc i) ts) rest a (e - a) starts long (without t c)
-        ∙ ap (λ (l : List Table). tableWords l ++ rest) (sym (set_split ts i (without t c) inside))
+        ∙ ap (λ (l : List Table). table_words l ++ rest) (sym (set_split ts i (without t c) inside))
 
     -- what the removal of x from the run of `slot` leaves
-    module _ (slot x : ℕ) (es : slot ≡ c % 2 ^ (get_or places i noPlace).s) (ex : x ≡ hashEntry (get_or places i noPlace).b (get_or places i noPlace).s (c % 2 ^ (get_or places i noPlace).b)) where
+    module _ (slot x : ℕ) (es : slot ≡ c % 2 ^ (get_or places i no_place).s) (ex : x ≡ hash_entry (get_or places i no_place).b (get_or places i no_place).s (c % 2 ^ (get_or places i no_place).b)) where
       slot_is : slot ≡ c % 2 ^ t.s
       unfolding place_of
       slot_is = es ∙ ap (λ (p : Place). c % 2 ^ p.s) (sym place_is)
 
-      entry-is : x ≡ hashEntry t.b t.s (c % 2 ^ t.b)
+      entry-is : x ≡ hash_entry t.b t.s (c % 2 ^ t.b)
       unfolding place_of
-      entry-is = ex ∙ ap (λ (p : Place). hashEntry p.b p.s (c % 2 ^ p.b)) (sym place_is)
+      entry-is = ex ∙ ap (λ (p : Place). hash_entry p.b p.s (c % 2 ^ p.b)) (sym place_is)
 
       pub gone : (r : Bool) (part : List ℕ)
           → ((runs : Runs) → take (e - a) (drop a annex) ≡ layout runs → total runs < length runs → T (rising (get_or runs slot []))
           → (r ≡ has x (get_or runs slot [])) × (part ≡ layout (set runs slot (erase x (get_or runs slot [])))))
-          → (dir : List Place) → dir ≡ set places i (record { b = (get_or places i noPlace).b; s = (get_or places i noPlace).s; count = (get_or places i noPlace).count - 1 })
+          → (dir : List Place) → dir ≡ set places i (record { b = (get_or places i no_place).b; s = (get_or places i no_place).s; count = (get_or places i no_place).count - 1 })
           → TakenAt places annex i c (put_mid a (e - a) annex part) dir
       gone r part f dir d =
           let rises : T (rising (get_or t.runs slot [])) = subst (λ (n : ℕ). T (rising (get_or t.runs n []))) (sym slot_is) slot-rises in

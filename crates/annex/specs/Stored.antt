@@ -4,12 +4,12 @@ use Rattle.std.specs.Prelude.{ℕ, ◌%◌, ◌^◌, ◌≤◌, ◌<◌, ◌≡�
 use Rattle.lists.specs.Runs.{erase, at}
 use Rattle.layout.specs.Decode.{decode}
 use Rattle.directory.specs.declared.Place.{Place}
-use Rattle.directory.specs.Places.{placesInUse, directoryRight, wordsTaken}
-use Rattle.rules.specs.Tables.{Table, hashEntry, matching, tables, tableWords, place_of}
-use Rattle.rules.specs.Sound.{annexRight}
+use Rattle.directory.specs.Places.{places_in_use, directory_right, words_taken}
+use Rattle.rules.specs.Tables.{Table, hash_entry, matching, tables, table_words, place_of}
+use Rattle.rules.specs.Sound.{annex_right}
 
-abbrev pub noTable : Table
-noTable = record { b = 0; s = 0; runs = [] }
+abbrev pub no_table : Table
+no_table = record { b = 0; s = 0; runs = [] }
 
 -- a table of mother hashes of b bits, by its words
 abbrev pub table_of : ℕ → ℕ → List ℕ → Table
@@ -17,31 +17,31 @@ table_of b s words = record { b = b; s = s; runs = decode words }
 
 -- the tables of a directory
 abbrev pub stored : List Place → List ℕ → List Table
-stored places annex = tables (placesInUse places) annex
+stored places annex = tables (places_in_use places) annex
 
 -- they are within the annex
 pub record Placed (places : List Place) (annex : List ℕ) : Type 0 where
-  pub directory : T (directoryRight 20 places)
-  pub long : wordsTaken (placesInUse places) ≤ length annex
+  pub directory : T (directory_right 20 places)
+  pub long : words_taken (places_in_use places) ≤ length annex
 
 -- i is the place of the longest mother hash that matches c: the last table with a match, since lengths rise; or 15 and no table has one
 pub record LongestAt (c : ℕ) (ts : List Table) (i : ℕ) : Type 0 where
   pub inside : i < 15 → i < length ts
-  pub here : i < 15 → 0 < matching c (get_or ts i noTable)
-  pub later : (j : ℕ) → (i < 15 → i < j) → j < length ts → matching c (get_or ts j noTable) ≡ 0
+  pub here : i < 15 → 0 < matching c (get_or ts i no_table)
+  pub later : (j : ℕ) → (i < 15 → i < j) → j < length ts → matching c (get_or ts j no_table) ≡ 0
 
 -- the table without one mother hash that matches c
 abbrev pub without : Table → ℕ → Table
-without t c = record { b = t.b; s = t.s; runs = at (c % 2 ^ t.s) (erase (hashEntry t.b t.s (c % 2 ^ t.b))) t.runs }
+without t c = record { b = t.b; s = t.s; runs = at (c % 2 ^ t.s) (erase (hash_entry t.b t.s (c % 2 ^ t.b))) t.runs }
 
 -- a mother hash that matches c is in the table at place i, and all tables are right
 pub record FoundAt (places : List Place) (annex : List ℕ) (i c : ℕ) : Type 0 where
   pub placed : Placed places annex
-  pub right : T (annexRight (placesInUse places) annex)
-  pub inside : i < length (placesInUse places)
-  pub match : 0 < matching c (get_or (stored places annex) i noTable)
+  pub right : T (annex_right (places_in_use places) annex)
+  pub inside : i < length (places_in_use places)
+  pub match : 0 < matching c (get_or (stored places annex) i no_table)
 
 -- it is gone: the words and the directory of the tables that are left
 pub record TakenAt (places : List Place) (annex : List ℕ) (i c : ℕ) (left : List ℕ) (dir : List Place) : Type 0 where
-  pub words : left ≡ tableWords (set (stored places annex) i (without (get_or (stored places annex) i noTable) c)) ++ drop (wordsTaken (placesInUse places)) annex
-  pub counts : dir ≡ set places i (place_of (without (get_or (stored places annex) i noTable) c))
+  pub words : left ≡ table_words (set (stored places annex) i (without (get_or (stored places annex) i no_table) c)) ++ drop (words_taken (places_in_use places)) annex
+  pub counts : dir ≡ set places i (place_of (without (get_or (stored places annex) i no_table) c))

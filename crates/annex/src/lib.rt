@@ -1,6 +1,6 @@
 // The stored mother hashes: the longest that matches an address, and its removal.
 ghost use Rattle.std.specs.Prelude.{◌≡◌, ◌-◌, ◌%◌, ◌^◌, ◌≤◌, ◌<◌, length};
-ghost use Rattle.rules.specs.Tables.{hashEntry, matching};
+ghost use Rattle.rules.specs.Tables.{hash_entry, matching};
 ghost use Rattle.annex.specs.Stored.{table_of, stored, Placed, LongestAt, FoundAt, TakenAt};
 
 use directory::Place;
@@ -8,7 +8,7 @@ use directory::Place;
 // The payload of the mother hash that the low b bits of c are, in a table of 2^s slots.
 pub fn hash_entry(b: u32, s: u32, c: u32) -> u32
     requires { (s < b) × (b - s < 18) × (b ≤ 20) }
-    ensures { result ≡ hashEntry b s (c % 2 ^ b) }
+    ensures { result ≡ hash_entry b s (c % 2 ^ b) }
 {
     let hash = c % slots::pow2(b);
     slots::encode(18, b - s, hash / slots::pow2(s))

@@ -11,8 +11,8 @@ use lib.Seq.{take-suc, length-take-le, set_out}
 use Rattle.lists.specs.Runs.{Runs, add, at, total}
 use Rattle.lists.proofs.RunLaws.{length-add, total-set}
 use Rattle.layout.specs.Machine.{layout}
-use Rattle.layout.specs.Decode.{decode, run_at, runsFrom}
-use Rattle.arriving.specs.Arrivals.{Arrival, arrival, arrive, Arrived, ofRun, ofRuns}
+use Rattle.layout.specs.Decode.{decode, run_at, runs_from}
+use Rattle.arriving.specs.Arrivals.{Arrival, arrival, arrive, Arrived, of_run, of_runs}
 
 pub arrive-append : (es bs : List Arrival) (rs : Runs) → arrive (es ++ bs) rs ≡ arrive bs (arrive es rs)
 unfolding arrive
@@ -55,55 +55,55 @@ arrived-both a b c es bs f g rs e h =
 -- ---- what the entries of runs give
 
 module _ {A : Type 0} where
-  pub run-append : (f : ℕ → List A) (l m : List ℕ) → ofRun f (l ++ m) ≡ ofRun f l ++ ofRun f m
-  unfolding ofRun
+  pub run-append : (f : ℕ → List A) (l m : List ℕ) → of_run f (l ++ m) ≡ of_run f l ++ of_run f m
+  unfolding of_run
   run-append f [] m = refl
-  run-append f (p ∷ l) m = ap (λ (x : List A). f p ++ x) (run-append f l m) ∙ sym (append_assoc (f p) (ofRun f l) (ofRun f m))
+  run-append f (p ∷ l) m = ap (λ (x : List A). f p ++ x) (run-append f l m) ∙ sym (append_assoc (f p) (of_run f l) (of_run f m))
 
-  pub run_more : (f : ℕ → List A) (run : List ℕ) (t p : ℕ) → t < length run → p ≡ get_or run t 0 → ofRun f (take (t + 1) run) ≡ ofRun f (take t run) ++ f p
-  unfolding ofRun
+  pub run_more : (f : ℕ → List A) (run : List ℕ) (t p : ℕ) → t < length run → p ≡ get_or run t 0 → of_run f (take (t + 1) run) ≡ of_run f (take t run) ++ f p
+  unfolding of_run
   run_more f run t p h e =
-      ap (λ (i : ℕ). ofRun f (take i run)) (add-one t) ∙ ap (ofRun f) (take-suc run t 0 h) ∙ run-append f (take t run) (get_or run t 0 ∷ [])
-      ∙ ap (λ (x : List A). ofRun f (take t run) ++ x) (append-nil (f (get_or run t 0)) ∙ ap f (sym e))
+      ap (λ (i : ℕ). of_run f (take i run)) (add-one t) ∙ ap (of_run f) (take-suc run t 0 h) ∙ run-append f (take t run) (get_or run t 0 ∷ [])
+      ∙ ap (λ (x : List A). of_run f (take t run) ++ x) (append-nil (f (get_or run t 0)) ∙ ap f (sym e))
 
-  pub runs_append : (f : ℕ → ℕ → List A) (c : ℕ) (l m : Runs) → ofRuns f c (l ++ m) ≡ ofRuns f c l ++ ofRuns f (c + length l) m
-  unfolding ofRuns
-  runs_append f c [] m = let e : c ≡ c + 0 = omega arith in ap (λ (i : ℕ). ofRuns f i m) e
+  pub runs_append : (f : ℕ → ℕ → List A) (c : ℕ) (l m : Runs) → of_runs f c (l ++ m) ≡ of_runs f c l ++ of_runs f (c + length l) m
+  unfolding of_runs
+  runs_append f c [] m = let e : c ≡ c + 0 = omega arith in ap (λ (i : ℕ). of_runs f i m) e
   runs_append f c (r ∷ l) m =
       let e : suc c + length l ≡ c + suc (length l) = omega arith in
-      ap (λ (x : List A). ofRun (f c) r ++ x) (runs_append f (suc c) l m ∙ ap (λ (i : ℕ). ofRuns f (suc c) l ++ ofRuns f i m) e)
-      ∙ sym (append_assoc (ofRun (f c) r) (ofRuns f (suc c) l) (ofRuns f (c + suc (length l)) m))
+      ap (λ (x : List A). of_run (f c) r ++ x) (runs_append f (suc c) l m ∙ ap (λ (i : ℕ). of_runs f (suc c) l ++ of_runs f i m) e)
+      ∙ sym (append_assoc (of_run (f c) r) (of_runs f (suc c) l) (of_runs f (c + suc (length l)) m))
 
-  pub runs-more : (f : ℕ → ℕ → List A) (runs : Runs) (c : ℕ) → c < length runs → ofRuns f 0 (take (c + 1) runs) ≡ ofRuns f 0 (take c runs) ++ ofRun (f c) (get_or runs c [])
-  unfolding ofRuns
+  pub runs-more : (f : ℕ → ℕ → List A) (runs : Runs) (c : ℕ) → c < length runs → of_runs f 0 (take (c + 1) runs) ≡ of_runs f 0 (take c runs) ++ of_run (f c) (get_or runs c [])
+  unfolding of_runs
   runs-more f runs c h =
-      ap (λ (i : ℕ). ofRuns f 0 (take i runs)) (add-one c) ∙ ap (ofRuns f 0) (take-suc runs c [] h) ∙ runs_append f 0 (take c runs) (get_or runs c [] ∷ [])
-      ∙ ap (λ (i : ℕ). ofRuns f 0 (take c runs) ++ ofRuns f i (get_or runs c [] ∷ [])) (zero-add (length (take c runs)) ∙ length-take-le c runs (omega arith))
-      ∙ ap (λ (x : List A). ofRuns f 0 (take c runs) ++ x) (append-nil (ofRun (f c) (get_or runs c [])))
+      ap (λ (i : ℕ). of_runs f 0 (take i runs)) (add-one c) ∙ ap (of_runs f 0) (take-suc runs c [] h) ∙ runs_append f 0 (take c runs) (get_or runs c [] ∷ [])
+      ∙ ap (λ (i : ℕ). of_runs f 0 (take c runs) ++ of_runs f i (get_or runs c [] ∷ [])) (zero-add (length (take c runs)) ∙ length-take-le c runs (omega arith))
+      ∙ ap (λ (x : List A). of_runs f 0 (take c runs) ++ x) (append-nil (of_run (f c) (get_or runs c [])))
 
   -- a part gives no more than the whole
-  pub run-part : (f : ℕ → List A) (run : List ℕ) (t : ℕ) → length (ofRun f (take t run)) ≤ length (ofRun f run)
+  pub run-part : (f : ℕ → List A) (run : List ℕ) (t : ℕ) → length (of_run f (take t run)) ≤ length (of_run f run)
   run-part f run t =
       omega (
         arith,
-        ap (λ (l : List ℕ). length (ofRun f l)) (take-append-drop t run),
+        ap (λ (l : List ℕ). length (of_run f l)) (take-append-drop t run),
         ap length (run-append f (take t run) (drop t run)),
-        length-append (ofRun f (take t run)) (ofRun f (drop t run)),
+        length-append (of_run f (take t run)) (of_run f (drop t run)),
       )
 
-  pub runs-part : (f : ℕ → ℕ → List A) (runs : Runs) (c : ℕ) → length (ofRuns f 0 (take c runs)) ≤ length (ofRuns f 0 runs)
+  pub runs-part : (f : ℕ → ℕ → List A) (runs : Runs) (c : ℕ) → length (of_runs f 0 (take c runs)) ≤ length (of_runs f 0 runs)
   runs-part f runs c =
       omega (
         arith,
-        ap (λ (l : Runs). length (ofRuns f 0 l)) (take-append-drop c runs),
+        ap (λ (l : Runs). length (of_runs f 0 l)) (take-append-drop c runs),
         ap length (runs_append f 0 (take c runs) (drop c runs)),
-        length-append (ofRuns f 0 (take c runs)) (ofRuns f (0 + length (take c runs)) (drop c runs)),
+        length-append (of_runs f 0 (take c runs)) (of_runs f (0 + length (take c runs)) (drop c runs)),
       )
 
 -- ---- the runs that are read
 
-from-get : (ws : List ℕ) (i n c : ℕ) → c < n → get_or (runsFrom ws i n) c [] ≡ run_at ws (i + c)
-unfolding runsFrom
+from-get : (ws : List ℕ) (i n c : ℕ) → c < n → get_or (runs_from ws i n) c [] ≡ run_at ws (i + c)
+unfolding runs_from
 from-get ws i zero c h = absurd (omega arith)
 from-get ws i (suc n) zero h = let e : i ≡ i + 0 = omega arith in ap (run_at ws) e
 from-get ws i (suc n) (suc c) h = let e : suc i + c ≡ i + suc c = omega arith in from-get ws (suc i) n c (omega arith) ∙ ap (run_at ws) e

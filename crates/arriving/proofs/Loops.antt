@@ -10,13 +10,13 @@ use lib.ListN.{length, get_or, take, length-append}
 use lib.Seq.{take_all}
 use borrow.Author.Tests.{eq-eqb, ne_eqb}
 use Rattle.lists.specs.Runs.{Runs, add, at, total}
-use Rattle.slots.specs.Payload.{pay, void, rest_of, length_of, fingerprintOf}
+use Rattle.slots.specs.Payload.{pay, void, rest_of, length_of, fingerprint_of}
 use Rattle.layout.specs.Machine.{layout}
 use Rattle.layout.specs.Decode.{turn, run_at, reading}
 use Rattle.layout.specs.Reading.{run_from}
 use Rattle.layout.proofs.RunLaws.{run_none, run-some, run_length}
 use Rattle.rules.specs.Doubling.{half}
-use Rattle.arriving.specs.Arrivals.{Arrival, arrival, Arrived, ofRun, halves, Sent}
+use Rattle.arriving.specs.Arrivals.{Arrival, arrival, Arrived, of_run, halves, Sent}
 use Rattle.arriving.proofs.Arrivals.{arrived-none, arrived-one, arrived-both, run_more}
 
 -- ---- the entries of a run
@@ -29,26 +29,26 @@ run_short ws c b f h e = go (ℕ_discrete (get_or ws c 0 % 2) 0)
     go (yes z) = omega (arith, ap length (run_none ws c h z))
     go (no z) = omega (arith, ap length (run-some ws c h (omega arith)), ap length e, run_length ws b f)
 
-pub run-start : {A : Type 0} (f : ℕ → List A) (run : List ℕ) → 0 ≡ length (ofRun f (take 0 run))
-unfolding ofRun
+pub run-start : {A : Type 0} (f : ℕ → List A) (run : List ℕ) → 0 ≡ length (of_run f (take 0 run))
+unfolding of_run
 run-start f run = refl
 
-pub run_end : {A : Type 0} (f : ℕ → List A) (run : List ℕ) (t : ℕ) → length run ≤ t → ofRun f (take t run) ≡ ofRun f run
-run_end f run t h = ap (ofRun f) (take_all t run h)
+pub run_end : {A : Type 0} (f : ℕ → List A) (run : List ℕ) (t : ℕ) → length run ≤ t → of_run f (take t run) ≡ of_run f run
+run_end f run t h = ap (of_run f) (take_all t run h)
 
-pub run-count : {A : Type 0} (f : ℕ → List A) (run : List ℕ) (t p m x : ℕ) → t < length run → p ≡ get_or run t 0 → m ≡ length (ofRun f (take t run)) → x ≡ length (f p)
-    → m + x ≡ length (ofRun f (take (t + 1) run))
-run-count f run t p m x h e em ex = omega (arith, ap length (run_more f run t p h e), length-append (ofRun f (take t run)) (f p))
+pub run-count : {A : Type 0} (f : ℕ → List A) (run : List ℕ) (t p m x : ℕ) → t < length run → p ≡ get_or run t 0 → m ≡ length (of_run f (take t run)) → x ≡ length (f p)
+    → m + x ≡ length (of_run f (take (t + 1) run))
+run-count f run t p m x h e em ex = omega (arith, ap length (run_more f run t p h e), length-append (of_run f (take t run)) (f p))
 
-pub arrive-start : (f : ℕ → List Arrival) (run : List ℕ) (ws : List ℕ) → Arrived ws ws (ofRun f (take 0 run))
-unfolding ofRun
+pub arrive-start : (f : ℕ → List Arrival) (run : List ℕ) (ws : List ℕ) → Arrived ws ws (of_run f (take 0 run))
+unfolding of_run
 arrive-start f run ws = arrived-none ws
 
-pub arrive-again : (f : ℕ → List Arrival) (run : List ℕ) (t p : ℕ) (a b c : List ℕ) → t < length run → p ≡ get_or run t 0 → Arrived a b (ofRun f (take t run)) → Arrived b c (f p)
-    → Arrived a c (ofRun f (take (t + 1) run))
-arrive-again f run t p a b c h e x y = rw (run_more f run t p h e) (arrived-both a b c (ofRun f (take t run)) (f p) x y)
+pub arrive-again : (f : ℕ → List Arrival) (run : List ℕ) (t p : ℕ) (a b c : List ℕ) → t < length run → p ≡ get_or run t 0 → Arrived a b (of_run f (take t run)) → Arrived b c (f p)
+    → Arrived a c (of_run f (take (t + 1) run))
+arrive-again f run t p a b c h e x y = rw (run_more f run t p h e) (arrived-both a b c (of_run f (take t run)) (f p) x y)
 
-pub arrive-end : (f : ℕ → List Arrival) (run : List ℕ) (t : ℕ) (a b : List ℕ) → length run ≤ t → Arrived a b (ofRun f (take t run)) → Arrived a b (ofRun f run)
+pub arrive-end : (f : ℕ → List Arrival) (run : List ℕ) (t : ℕ) (a b : List ℕ) → length run ≤ t → Arrived a b (of_run f (take t run)) → Arrived a b (of_run f run)
 arrive-end f run t a b h x = subst (Arrived a b) (run_end f run t h) x
 
 -- ---- the halves of an entry
@@ -61,7 +61,7 @@ half-void : (w v t p : ℕ) → rest_of w p ≡ 1 → half w v t p ≡ void v �
 unfolding half
 half-void w v t p e = rw (e, half)
 
-half-some : (w v t p l : ℕ) (b : Bool) → rest_of w p ≡ suc (suc l) → eqb (fingerprintOf w p % 2) t ≡ b → half w v t p ≡ elim b [ true ↦ pay v l (fingerprintOf w p / 2) ∷ [] | false ↦ [] ]
+half-some : (w v t p l : ℕ) (b : Bool) → rest_of w p ≡ suc (suc l) → eqb (fingerprint_of w p % 2) t ≡ b → half w v t p ≡ elim b [ true ↦ pay v l (fingerprint_of w p / 2) ∷ [] | false ↦ [] ]
 unfolding half
 half-some w v t p l b e f = rw (e, half, f)
 
@@ -89,19 +89,19 @@ module _ (w v n c p m : ℕ) (em : m ≡ rest_of w p) where
       each t = half-void w v t p (sym em ∙ e) ∙ ap (λ (y : ℕ). y ∷ []) (sym ex)
 
   module _ (f x : ℕ) (lo : m ≡ 0 → ⊥) (hi : m ≡ 1 → ⊥) (ef : f ≡ p % 2 ^ (m - 1)) (ex : x ≡ pay v (m - 2) (f / 2)) where
-    bits : fingerprintOf w p ≡ f
-    bits = unfold fingerprintOf length_of in ap (λ (j : ℕ). p % 2 ^ (j - 1)) (sym em) ∙ sym ef
+    bits : fingerprint_of w p ≡ f
+    bits = unfold fingerprint_of length_of in ap (λ (j : ℕ). p % 2 ^ (j - 1)) (sym em) ∙ sym ef
 
     rest : rest_of w p ≡ suc (suc (m - 2))
     rest = omega arith
 
     own : (t : ℕ) → f % 2 ≡ t → half w v t p ≡ x ∷ []
     own t e =
-        half-some w v t p (m - 2) true rest (eq-eqb (fingerprintOf w p % 2) t (ap (λ (j : ℕ). j % 2) bits ∙ e))
+        half-some w v t p (m - 2) true rest (eq-eqb (fingerprint_of w p % 2) t (ap (λ (j : ℕ). j % 2) bits ∙ e))
         ∙ ap (λ (j : ℕ). pay v (m - 2) (j / 2) ∷ []) bits ∙ ap (λ (y : ℕ). y ∷ []) (sym ex)
 
     other : (t : ℕ) → (f % 2 ≡ t → ⊥) → half w v t p ≡ []
-    other t n = half-some w v t p (m - 2) false rest (ne_eqb (fingerprintOf w p % 2) t (λ e. n (ap (λ (j : ℕ). j % 2) (sym bits) ∙ e)))
+    other t n = half-some w v t p (m - 2) false rest (ne_eqb (fingerprint_of w p % 2) t (λ e. n (ap (λ (j : ℕ). j % 2) (sym bits) ∙ e)))
 
     pub sent-low : (ws ws' : List ℕ) → f % 2 ≡ 0 → Put ws ws' c x → Sent w v n c p ws ws' 1
     sent-low ws ws' z g =

@@ -22,13 +22,13 @@ Arrived before after es = (runs : Runs) → before ≡ layout runs → total run
 
 module _ {A : Type 0} where
   -- what the entries of a run give, and those of all runs from address c on
-  unfoldable pub ofRun : (ℕ → List A) → List ℕ → List A
-  ofRun f [] = []
-  ofRun f (p ∷ ps) = f p ++ ofRun f ps
+  unfoldable pub of_run : (ℕ → List A) → List ℕ → List A
+  of_run f [] = []
+  of_run f (p ∷ ps) = f p ++ of_run f ps
 
-  unfoldable pub ofRuns : (ℕ → ℕ → List A) → ℕ → Runs → List A
-  ofRuns f c [] = []
-  ofRuns f c (run ∷ runs) = ofRun (f c) run ++ ofRuns f (suc c) runs
+  unfoldable pub of_runs : (ℕ → ℕ → List A) → ℕ → Runs → List A
+  of_runs f c [] = []
+  of_runs f c (run ∷ runs) = of_run (f c) run ++ of_runs f (suc c) runs
 
 abbrev pub arrival : ℕ → ℕ → Arrival
 arrival a x = record { address = a; payload = x }

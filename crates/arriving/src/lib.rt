@@ -6,7 +6,7 @@ ghost use Rattle.slots.specs.Payload.{pay, void};
 ghost use Rattle.layout.specs.Machine.{layout};
 ghost use Rattle.layout.specs.Decode.{decode, run_at};
 ghost use Rattle.rules.specs.Doubling.{doubled};
-ghost use Rattle.arriving.specs.Arrivals.{Arrived, Narrow, Size, Sent, ofRun, halves};
+ghost use Rattle.arriving.specs.Arrivals.{Arrived, Narrow, Size, Sent, of_run, halves};
 
 // The void payload of width v.
 fn void_at(v: u32) -> u32
@@ -61,8 +61,8 @@ fn send(second: &mut [u32], n: usize, c: usize, p: u32, w: u32, v: u32) -> u32
 fn send_run(main: &[u32], second: &mut [u32], c: usize, w: u32, v: u32) -> u32
     requires { (c < length main.now) × Size main.now × Size second.old × (length second.old ≡ length main.now + length main.now)
         × Narrow w main.now × (1 ≤ w) × (w ≤ v) × (v ≤ 26) }
-    ensures { Arrived second.old second.new (ofRun (halves w v (length main.now) c) (run_at main.now c))
-        × (result ≡ length (ofRun (halves w v (length main.now) c) (run_at main.now c))) }
+    ensures { Arrived second.old second.new (of_run (halves w v (length main.now) c) (run_at main.now c))
+        × (result ≡ length (of_run (halves w v (length main.now) c) (run_at main.now c))) }
 {
     let n = main.len();
     let r = walks::locate(main, c);

@@ -2,5 +2,5 @@
 use Rattle.std.specs.Prelude.{ℕ, ◌/◌, ◌^◌, Bool, List, ltb}
 use Rattle.lists.specs.Lists.{every}
 
-unfoldable pub addressesBelow : ℕ → List ℕ → Bool
-addressesBelow k ws = every (λ (w : ℕ). ltb (w / 2) (2 ^ k)) ws
+unfoldable pub addresses_below : ℕ → List ℕ → Bool
+addresses_below k ws = every (λ (w : ℕ). ltb (w / 2) (2 ^ k)) ws

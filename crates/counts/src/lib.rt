@@ -4,12 +4,12 @@ ghost use Rattle.lists.specs.Runs.{count};
 ghost use Rattle.slots.specs.Payload.{tombstone, void};
 ghost use Rattle.layout.specs.Decode.{decode};
 ghost use Rattle.layout.specs.Document.{carry};
-ghost use Rattle.directory.specs.Places.{placesInUse, directoryRight, wordsTaken};
+ghost use Rattle.directory.specs.Places.{places_in_use, directory_right, words_taken};
 ghost use Rattle.rules.specs.Tables.{Table};
-ghost use Rattle.rules.specs.Sound.{annexRight, addressRight};
-ghost use Rattle.sound.specs.Reading.{Laid, readAt};
-ghost use Rattle.tallies.specs.Tally.{blockSize, Tallied, Stored};
-ghost use Rattle.counts.specs.Blocks.{addressTest, rightFrom, Block};
+ghost use Rattle.rules.specs.Sound.{annex_right, address_right};
+ghost use Rattle.sound.specs.Reading.{Laid, read_at};
+ghost use Rattle.tallies.specs.Tally.{block_size, Tallied, Stored};
+ghost use Rattle.counts.specs.Blocks.{address_test, right_from, Block};
 
 // a less b, or 0 if that is negative.
 fn less(a: u32, b: u32) -> u32
@@ -39,9 +39,9 @@ fn address_right(
     mothers: u32,
 ) -> Checked
     requires { (c < length words.now) × (k < length words.now) × (length words.now ≤ 1048576) × (1 ≤ w) × (w ≤ 26) }
-    ensures { (result.good ≡ (eqb (count (tombstone w) (readAt words.now c k)) evens
-        && eqb (count (void w) (readAt words.now c k)) (mothers - named)))
-        × (result.carry ≡ k + length (readAt words.now c k) - 1) }
+    ensures { (result.good ≡ (eqb (count (tombstone w) (read_at words.now c k)) evens
+        && eqb (count (void w) (read_at words.now c k)) (mothers - named)))
+        × (result.carry ≡ k + length (read_at words.now c k) - 1) }
 {
     let t = slots::tombstone_of(w);
     let v = slots::void_of(w);
@@ -56,7 +56,7 @@ fn address_right(
 // How many addresses of a table of `len` slots are in the block from base on.
 fn addresses(len: usize, base: usize) -> usize
     requires { base < len }
-    ensures { (result ≤ blockSize) × (base + result ≤ len) × (result < blockSize → base + result ≡ len) }
+    ensures { (result ≤ block_size) × (base + result ≤ len) × (result < block_size → base + result ≡ len) }
 {
     if len - base < tallies::BLOCK {
         return len - base;
@@ -75,10 +75,10 @@ fn addresses_right(
     evens: &[u32],
     mothers: &[u32],
 ) -> Checked
-    requires { Laid words.now × (length words.now ≤ 1048576) × (1 ≤ w) × (w ≤ 26) × (n ≤ blockSize) × (base + n ≤ length words.now) × (n < blockSize → base + n ≡ length words.now)
-        × (length names.now ≡ blockSize) × (length evens.now ≡ blockSize) × (length mothers.now ≡ blockSize) × (waiting ≡ carry (decode words.now) base) }
+    requires { Laid words.now × (length words.now ≤ 1048576) × (1 ≤ w) × (w ≤ 26) × (n ≤ block_size) × (base + n ≤ length words.now) × (n < block_size → base + n ≡ length words.now)
+        × (length names.now ≡ block_size) × (length evens.now ≡ block_size) × (length mothers.now ≡ block_size) × (waiting ≡ carry (decode words.now) base) }
     ensures { (ts : List Table) → (ws : List ℕ) → Tallied base ws names.now evens.now → Stored base n ts mothers.now
-        → Block (addressRight w ts ws) (decode words.now) base result.good result.carry }
+        → Block (address_right w ts ws) (decode words.now) base result.good result.carry }
 {
     let mut k = waiting;
     let mut i: usize = 0;
@@ -108,10 +108,10 @@ fn block_right(
     base: usize,
     waiting: usize,
 ) -> Checked
-    requires { Laid words.now × (base % blockSize ≡ 0) × (base < length words.now) × (length words.now ≤ 1048576) × (1 ≤ w) × (w ≤ 26) × (length queue.now ≤ 1048576)
-        × T (directoryRight 20 places) × (wordsTaken (placesInUse places) ≤ length annex.now) × T (annexRight (placesInUse places) annex.now)
+    requires { Laid words.now × (base % block_size ≡ 0) × (base < length words.now) × (length words.now ≤ 1048576) × (1 ≤ w) × (w ≤ 26) × (length queue.now ≤ 1048576)
+        × T (directory_right 20 places) × (words_taken (places_in_use places) ≤ length annex.now) × T (annex_right (places_in_use places) annex.now)
         × (waiting ≡ carry (decode words.now) base) }
-    ensures { Block (addressTest w places annex.now queue.now) (decode words.now) base result.good result.carry }
+    ensures { Block (address_test w places annex.now queue.now) (decode words.now) base result.good result.carry }
 {
     let mut names = [0u32; tallies::BLOCK];
     let mut evens = [0u32; tallies::BLOCK];
@@ -131,8 +131,8 @@ pub fn counts_right(
     annex: &[u32],
 ) -> bool
     requires { Laid words.now × (1 < length words.now) × (length words.now ≤ 1048576) × (1 ≤ w) × (w ≤ 26) × (length queue.now ≤ 1048576)
-        × T (directoryRight 20 places) × (wordsTaken (placesInUse places) ≤ length annex.now) × T (annexRight (placesInUse places) annex.now) }
-    ensures { result ≡ rightFrom (addressTest w places annex.now queue.now) 0 (decode words.now) }
+        × T (directory_right 20 places) × (words_taken (places_in_use places) ≤ length annex.now) × T (annex_right (places_in_use places) annex.now) }
+    ensures { result ≡ right_from (address_test w places annex.now queue.now) 0 (decode words.now) }
 {
     let len = words.len();
     let first = walks::locate(words, 0);

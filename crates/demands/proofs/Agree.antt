@@ -6,10 +6,10 @@ use mathlib.Core.List.{List}
 use Prim.Native.Nat.{ℕ, suc}
 use Rattle.rules.specs.Record.{Filter}
 use Rattle.rules.specs.Calls.{Outcome}
-use Rattle.rules.specs.Quick.{query, queryNumber, insertNumber}
+use Rattle.rules.specs.Quick.{query, query_number, insert_number}
 use Rattle.rules.specs.Slow.{audit}
-use Rattle.rules.specs.Lookups.{part, queryBytes}
-use Rattle.filter.specs.Contracts.{Quick}
+use Rattle.rules.specs.Lookups.{part, query_bytes}
+use Rattle.filter.specs.Promises.{Quick}
 use Rattle.demands.specs.Results.{Starts, Restarts, Inserts, Deletes, Rejuvenates, Audits, Settles, Doubles}
 use Rattle.demands.proofs.Demand2.{insert-by-rule, delete-by-rule, rejuvenate-by-rule, settle-by-rule, double-by-rule, start-by-rule, same}
 
@@ -17,7 +17,7 @@ pub start-agrees : (power f regime : ℕ) (main queue annex : List ℕ) (o p : O
 start-agrees power f regime main queue annex o p x y = start-by-rule power f regime main queue annex o x ∙ sym (start-by-rule power f regime main queue annex p y)
 
 -- the exported Query, on any bytes
-pub bytes-agrees : (k w : ℕ) (bytes : List ℕ) (h a b : ℕ) → a ≡ queryBytes k w bytes h → b ≡ queryBytes k w bytes h → a ≡ b
+pub bytes-agrees : (k w : ℕ) (bytes : List ℕ) (h a b : ℕ) → a ≡ query_bytes k w bytes h → b ≡ query_bytes k w bytes h → a ≡ b
 bytes-agrees k w bytes h a b x y = x ∙ sym y
 
 -- the words of the annex table of length b, which the part lookup returns
@@ -45,13 +45,13 @@ module _ (r : Filter) (main queue annex : List ℕ) where
       → Quick q first s r main queue annex o.number o.rec o.main o.queue o.annex → Quick q first s r main queue annex p.number p.rec p.main p.queue p.annex → o ≡ p
   decided q first s n e o p x y = same o q (x.decided n e) ∙ sym (same p q (y.decided n e))
 
-  pub insert-refusals-agree : (n : ℕ) → insertNumber r main queue annex ≡ suc n → (h : ℕ) (o p : Outcome) → Inserts r main queue annex h o → Inserts r main queue annex h p → o ≡ p
+  pub insert-refusals-agree : (n : ℕ) → insert_number r main queue annex ≡ suc n → (h : ℕ) (o p : Outcome) → Inserts r main queue annex h o → Inserts r main queue annex h p → o ≡ p
   insert-refusals-agree n e h o p = decided _ _ _ n e o p
 
-  pub delete-refusals-agree : (n : ℕ) → queryNumber r main queue annex ≡ suc n → (h : ℕ) (o p : Outcome) → Deletes r main queue annex h o → Deletes r main queue annex h p → o ≡ p
+  pub delete-refusals-agree : (n : ℕ) → query_number r main queue annex ≡ suc n → (h : ℕ) (o p : Outcome) → Deletes r main queue annex h o → Deletes r main queue annex h p → o ≡ p
   delete-refusals-agree n e h o p = decided _ _ _ n e o p
 
-  pub rejuvenate-refusals-agree : (n : ℕ) → queryNumber r main queue annex ≡ suc n → (h : ℕ) (o p : Outcome) → Rejuvenates r main queue annex h o → Rejuvenates r main queue annex h p → o ≡ p
+  pub rejuvenate-refusals-agree : (n : ℕ) → query_number r main queue annex ≡ suc n → (h : ℕ) (o p : Outcome) → Rejuvenates r main queue annex h o → Rejuvenates r main queue annex h p → o ≡ p
   rejuvenate-refusals-agree n e h o p = decided _ _ _ n e o p
 
   -- the slow calls, on any memory

@@ -9,15 +9,15 @@ use lib.Dec.{eqb}
 use lib.ListN.{length}
 use borrow.Author.Tests.{eq-eqb, ne_eqb}
 use Rattle.lists.proofs.Tests.{no_true, test-true}
-use Rattle.rules.specs.Record.{Filter, change, allZero}
-use Rattle.rules.specs.Refusals.{Test, refusal, recordRight, slicesRight}
+use Rattle.rules.specs.Record.{Filter, change, all_zero}
+use Rattle.rules.specs.Refusals.{Test, refusal, record_right, slices_right}
 use Rattle.rules.specs.Sound.{sound}
-use Rattle.rules.specs.Calls.{Outcome, give, refused, asked, startNumber, start}
-use Rattle.rules.specs.Quick.{queryNumber, insertNumber, takeNumber}
-use Rattle.rules.specs.Slow.{audit, settle, double, doubleNumber}
+use Rattle.rules.specs.Calls.{Outcome, give, refused, asked, start_number, start}
+use Rattle.rules.specs.Quick.{query_number, insert_number, take_number}
+use Rattle.rules.specs.Slow.{audit, settle, double, double_number}
 use Rattle.keeps.proofs.Refusals.{refusal-zero}
 use Rattle.keeps.proofs.Refused.{settle-refused, double-refused, second-refused}
-use Rattle.filter.specs.Contracts.{Quick}
+use Rattle.filter.specs.Promises.{Quick}
 use Rattle.demands.specs.Results.{Starts, Inserts, Deletes, Rejuvenates, Settles, Doubles, Nothing}
 
 -- ---- "a refused call changes no memory" (Query and Audit are lent their words to read only)
@@ -62,10 +62,10 @@ module _ (r : Filter) (main queue annex : List ℕ) where
       )
 
 -- "(Start: an all-zero record)"
-pub start-refused : (power f regime : ℕ) (main queue annex : List ℕ) (o : Outcome) → Starts power f regime main queue annex o → (o.number ≡ 0 → ⊥) → Nothing allZero main queue annex o
-start-refused power f regime main queue annex o l ne = go (startNumber power f regime (length main)) refl
+pub start-refused : (power f regime : ℕ) (main queue annex : List ℕ) (o : Outcome) → Starts power f regime main queue annex o → (o.number ≡ 0 → ⊥) → Nothing all_zero main queue annex o
+start-refused power f regime main queue annex o l ne = go (start_number power f regime (length main)) refl
   where
-    go : (n : ℕ) → startNumber power f regime (length main) ≡ n → Nothing allZero main queue annex o
+    go : (n : ℕ) → start_number power f regime (length main) ≡ n → Nothing all_zero main queue annex o
     go zero e = absurd (ne (l.number_is ∙ (unfold start give in rw (e, give))))
     go (suc n) e =
         unfold start give refused in
@@ -80,56 +80,56 @@ start-refused power f regime main queue annex o l ne = go (startNumber power f r
 
 module _ (r : Filter) (main queue annex : List ℕ) where
   abbrev Lengths : Bool
-  Lengths = slicesRight r (length main) (length queue) (length annex)
+  Lengths = slices_right r (length main) (length queue) (length annex)
 
-  asked-2 : (ts : List Test) → recordRight r ≡ false → refusal (asked r main queue annex ts) ≡ 2
+  asked-2 : (ts : List Test) → record_right r ≡ false → refusal (asked r main queue annex ts) ≡ 2
   unfolding asked refusal
   asked-2 ts e = rw (e, refusal)
 
-  asked-3 : (ts : List Test) → recordRight r ≡ true → slicesRight r (length main) (length queue) (length annex) ≡ false → refusal (asked r main queue annex ts) ≡ 3
+  asked-3 : (ts : List Test) → record_right r ≡ true → slices_right r (length main) (length queue) (length annex) ≡ false → refusal (asked r main queue annex ts) ≡ 3
   unfolding asked refusal
   asked-3 ts e f = rw (e, f, refusal)
 
-  pub bad-record : recordRight r ≡ false → (h second : ℕ)
-      → (queryNumber r main queue annex ≡ 2) × (insertNumber r main queue annex ≡ 2) × (takeNumber r main queue annex h ≡ 2) × (audit r main queue annex ≡ 2) × (doubleNumber r main queue annex second ≡ 2)
-  unfolding queryNumber insertNumber takeNumber audit doubleNumber refusal
+  pub bad-record : record_right r ≡ false → (h second : ℕ)
+      → (query_number r main queue annex ≡ 2) × (insert_number r main queue annex ≡ 2) × (take_number r main queue annex h ≡ 2) × (audit r main queue annex ≡ 2) × (double_number r main queue annex second ≡ 2)
+  unfolding query_number insert_number take_number audit double_number refusal
   bad-record e h second = (asked-2 _ e, asked-2 _ e, asked-2 _ e, asked-2 _ e, rw (e, refusal))
 
-  pub bad-lengths : recordRight r ≡ true → slicesRight r (length main) (length queue) (length annex) ≡ false → (h : ℕ)
-      → (queryNumber r main queue annex ≡ 3) × (insertNumber r main queue annex ≡ 3) × (takeNumber r main queue annex h ≡ 3) × (audit r main queue annex ≡ 3)
-  unfolding queryNumber insertNumber takeNumber audit
+  pub bad-lengths : record_right r ≡ true → slices_right r (length main) (length queue) (length annex) ≡ false → (h : ℕ)
+      → (query_number r main queue annex ≡ 3) × (insert_number r main queue annex ≡ 3) × (take_number r main queue annex h ≡ 3) × (audit r main queue annex ≡ 3)
+  unfolding query_number insert_number take_number audit
   bad-lengths e f h = (asked-3 _ e f, asked-3 _ e f, asked-3 _ e f, asked-3 _ e f)
 
   -- Double asks 9 between them, and 3 of its second main too
-  pub double-at-20 : recordRight r ≡ true → r.k ≡ 20 → (second : ℕ) → doubleNumber r main queue annex second ≡ 9
-  unfolding doubleNumber refusal
+  pub double-at-20 : record_right r ≡ true → r.k ≡ 20 → (second : ℕ) → double_number r main queue annex second ≡ 9
+  unfolding double_number refusal
   double-at-20 e t second = rw (e, eq-eqb r.k 20 t, refusal)
 
-  pub double-bad-lengths : recordRight r ≡ true → (r.k ≡ 20 → ⊥) → (second : ℕ)
-      → (slicesRight r (length main) (length queue) (length annex) && eqb second (2 ^ (r.k + 1))) ≡ false → doubleNumber r main queue annex second ≡ 3
-  unfolding doubleNumber refusal
+  pub double-bad-lengths : record_right r ≡ true → (r.k ≡ 20 → ⊥) → (second : ℕ)
+      → (slices_right r (length main) (length queue) (length annex) && eqb second (2 ^ (r.k + 1))) ≡ false → double_number r main queue annex second ≡ 3
+  unfolding double_number refusal
   double-bad-lengths e t second f = rw (e, ne_eqb r.k 20 t, f, refusal)
 
   -- "the slow calls refuse it": 4
-  pub unsound-refused : recordRight r ≡ true → slicesRight r (length main) (length queue) (length annex) ≡ true → sound r main queue annex ≡ false
+  pub unsound-refused : record_right r ≡ true → slices_right r (length main) (length queue) (length annex) ≡ true → sound r main queue annex ≡ false
       → (audit r main queue annex ≡ 4) × ((settle r main queue annex).number ≡ 4)
   unfolding audit asked refusal settle give refused
   unsound-refused e f s = (rw (e, f, s, refusal), rw (e, f, s, refusal, give))
 
-  pub double-unsound : recordRight r ≡ true → (r.k ≡ 20 → ⊥) → slicesRight r (length main) (length queue) (length annex) ≡ true → (second : ℕ) → second ≡ 2 ^ (r.k + 1)
-      → sound r main queue annex ≡ false → (doubleNumber r main queue annex second ≡ 4) × ((double r main queue annex second).number ≡ 4)
-  unfolding doubleNumber refusal double give refused
+  pub double-unsound : record_right r ≡ true → (r.k ≡ 20 → ⊥) → slices_right r (length main) (length queue) (length annex) ≡ true → (second : ℕ) → second ≡ 2 ^ (r.k + 1)
+      → sound r main queue annex ≡ false → (double_number r main queue annex second ≡ 4) × ((double r main queue annex second).number ≡ 4)
+  unfolding double_number refusal double give refused
   double-unsound e t f second g s =
       let l = eq-eqb second (2 ^ (r.k + 1)) g in
       (rw (e, ne_eqb r.k 20 t, f, l, s, refusal), rw (e, ne_eqb r.k 20 t, f, l, s, refusal, give))
 
   -- whatever the record, the lengths and the second main: by one number or another Double is refused
-  pub double-unsound-refused : sound r main queue annex ≡ false → (second : ℕ) → doubleNumber r main queue annex second ≡ 0 → ⊥
-  unfolding doubleNumber
+  pub double-unsound-refused : sound r main queue annex ≡ false → (second : ℕ) → double_number r main queue annex second ≡ 0 → ⊥
+  unfolding double_number
   double-unsound-refused s second z =
-      let a = refusal-zero (recordRight r) 1 _ z in
+      let a = refusal-zero (record_right r) 1 _ z in
       let b = refusal-zero (not (eqb r.k 20)) 8 _ a.1 in
-      let c = refusal-zero (slicesRight r (length main) (length queue) (length annex) && eqb second (2 ^ (r.k + 1))) 2 _ b.1 in
+      let c = refusal-zero (slices_right r (length main) (length queue) (length annex) && eqb second (2 ^ (r.k + 1))) 2 _ b.1 in
       let d = refusal-zero (sound r main queue annex) 3 _ c.1 in
       no_true (sym s ∙ test-true (sound r main queue annex) d.0)
 

@@ -11,9 +11,9 @@ use Rattle.layout.specs.Bytes.{words_of}
 use Rattle.rules.specs.Record.{Filter, width}
 use Rattle.rules.specs.Refusals.{refusal}
 use Rattle.rules.specs.Calls.{Outcome, start}
-use Rattle.rules.specs.Quick.{matchesIn, queryNumber, query, insert, delete, rejuvenate}
-use Rattle.rules.specs.Slow.{audit, settle, double, secondMain}
-use Rattle.rules.specs.Lookups.{bytesNumber, answer_in, queryBytes}
+use Rattle.rules.specs.Quick.{matches_in, query_number, query, insert, delete, rejuvenate}
+use Rattle.rules.specs.Slow.{audit, settle, double, second_main}
+use Rattle.rules.specs.Lookups.{bytes_number, answer_in, query_bytes}
 use Rattle.keeps.proofs.State.{fine}
 use Rattle.keeps.proofs.Bounds.{bounds}
 use Rattle.keeps.proofs.Refusals.{asked-zero}
@@ -22,7 +22,7 @@ use Rattle.keeps.proofs.Done.{insert-good, delete-good, rejuvenate-good}
 use Rattle.keeps.proofs.Settle.{settle-good}
 use Rattle.keeps.proofs.Doubled.{double-good}
 use Rattle.keeps.proofs.Start.{start-good}
-use Rattle.filter.specs.Contracts.{Leaves}
+use Rattle.filter.specs.Promises.{Leaves}
 use Rattle.demands.specs.Results.{Starts, Inserts, Deletes, Rejuvenates, Settles, Doubles}
 
 -- an outcome whose five parts are those of another is that one
@@ -47,7 +47,7 @@ module _ (r : Filter) (main queue annex : List ℕ) where
   settle-by-rule o l = same o _ l
 
   pub double-by-rule : (second : List ℕ) (o : Outcome) (second' : List ℕ) → Doubles r main queue annex second o second'
-      → (o ≡ double r main queue annex (length second)) × (second' ≡ secondMain r main queue annex second)
+      → (o ≡ double r main queue annex (length second)) × (second' ≡ second_main r main queue annex second)
   double-by-rule second o second' d = (same o _ d.left, d.second_is)
 
 pub start-by-rule : (power f regime : ℕ) (main queue annex : List ℕ) (o : Outcome) → Starts power f regime main queue annex o → o ≡ start power f regime main queue annex
@@ -56,17 +56,17 @@ start-by-rule power f regime main queue annex o l = same o _ l
 -- ---- "asks Query with k, W and those bytes through an exported function that also takes the hash; the answer is the same"
 
 -- a record that Query accepts has k and W in the range that the exported Query asks for
-bytes-accepted : (r : Filter) (main queue annex bytes : List ℕ) → queryNumber r main queue annex ≡ 0 → length bytes ≡ 4 * 2 ^ r.k → bytesNumber r.k (width r) (length bytes) ≡ 0
-unfolding queryNumber bytesNumber refusal
+bytes-accepted : (r : Filter) (main queue annex bytes : List ℕ) → query_number r main queue annex ≡ 0 → length bytes ≡ 4 * 2 ^ r.k → bytes_number r.k (width r) (length bytes) ≡ 0
+unfolding query_number bytes_number refusal
 bytes-accepted r main queue annex bytes z l =
     let b = bounds r (asked-zero r main queue annex [] z).0 in
     rw (le-leb 3 r.k b.k_3, le-leb r.k 20 b.k-20, le-leb 4 (width r) b.width-4, le-leb (width r) 26 b.width-26, eq-eqb (length bytes) (4 * 2 ^ r.k) l, refusal)
 
-pub bytes_same : (r : Filter) (main queue annex bytes : List ℕ) → queryNumber r main queue annex ≡ 0 → length bytes ≡ 4 * 2 ^ r.k → words_of bytes ≡ main
-    → (h : ℕ) → queryBytes r.k (width r) bytes h ≡ query r main queue annex h
-unfolding queryBytes answer_in query matchesIn
+pub bytes_same : (r : Filter) (main queue annex bytes : List ℕ) → query_number r main queue annex ≡ 0 → length bytes ≡ 4 * 2 ^ r.k → words_of bytes ≡ main
+    → (h : ℕ) → query_bytes r.k (width r) bytes h ≡ query r main queue annex h
+unfolding query_bytes answer_in query matches_in
 bytes_same r main queue annex bytes z l e h =
-    rw (bytes-accepted r main queue annex bytes z l, z, queryBytes, query) (ap (λ (words : List ℕ). answer_in r.k (width r) words h) e)
+    rw (bytes-accepted r main queue annex bytes z l, z, query_bytes, query) (ap (λ (words : List ℕ). answer_in r.k (width r) words h) e)
 
 -- ---- "Decoding the table and laying it out again gives the same words."
 
@@ -96,5 +96,5 @@ module _ (r : Filter) (main queue annex : List ℕ) where
   settle-audited z = good-audit _ _ _ _ (settle-good r main queue annex z)
 
   pub double-audited : (second : List ℕ) → (double r main queue annex (length second)).number ≡ 0
-      → audit (double r main queue annex (length second)).rec (secondMain r main queue annex second) (double r main queue annex (length second)).queue (double r main queue annex (length second)).annex ≡ 0
+      → audit (double r main queue annex (length second)).rec (second_main r main queue annex second) (double r main queue annex (length second)).queue (double r main queue annex (length second)).annex ≡ 0
   double-audited second z = good-audit _ _ _ _ (double-good r main queue annex second z)

@@ -8,11 +8,11 @@ use lib.ListN.{length, get_or}
 use Rattle.lists.specs.Runs.{count}
 use Rattle.slots.specs.Payload.{void}
 use Rattle.layout.specs.Decode.{decode}
-use Rattle.rules.specs.Record.{width, inUse}
-use Rattle.rules.specs.Tables.{tables, mothersOf}
+use Rattle.rules.specs.Record.{width, in_use}
+use Rattle.rules.specs.Tables.{tables, mothers_of}
 use Rattle.rules.specs.Quick.{query, delete, rejuvenate}
 use Rattle.rules.specs.Slow.{audit, settle}
-use Rattle.history.specs.History.{Call, Settle, IsHeld, held, Words, History, AnyHistory, with_bits, storedHashes, Answered, VoidsMatch}
+use Rattle.history.specs.History.{Call, Settle, IsHeld, held, Words, History, AnyHistory, with_bits, stored_hashes, Answered, VoidsMatch}
 use Rattle.history.proofs.Demand3 as proof
 
 -- "Then every held hash is answered yes,
@@ -21,16 +21,16 @@ unfolding Answered
 yes-to-held hi h l = proof.answered hi h l
 
 -- and the entries with fingerprints plus the stored mother hashes, less the queued removals, number exactly the held hashes.
-pub exactly-held : {cs : List Call} {s : Words} → History cs s → with_bits s + storedHashes s - s.rec.queued ≡ length (held cs)
+pub exactly-held : {cs : List Call} {s : Words} → History cs s → with_bits s + stored_hashes s - s.rec.queued ≡ length (held cs)
 exactly-held hi = (proof.exact hi).less
 
 -- (nothing is cut off by the subtraction)
-pub queued-within : {cs : List Call} {s : Words} → History cs s → with_bits s + storedHashes s ≡ length (held cs) + s.rec.queued
+pub queued-within : {cs : List Call} {s : Words} → History cs s → with_bits s + stored_hashes s ≡ length (held cs) + s.rec.queued
 queued-within hi = (proof.exact hi).plus
 
 -- Directly after a settle, valid calls or not, each address holds as many void entries as stored mother hashes match it."
 pub voids-after-settle : {cs : List Call} {s : Words} → AnyHistory (Settle ∷ cs) s → (a : ℕ) → a < 2 ^ s.rec.k
-    → count (void (width s.rec)) (get_or (decode s.main) a []) ≡ mothersOf a (tables (inUse s.rec) s.annex)
+    → count (void (width s.rec)) (get_or (decode s.main) a []) ≡ mothers_of a (tables (in_use s.rec) s.annex)
 unfolding VoidsMatch
 voids-after-settle hi a h = proof.after-settle hi a h
 

@@ -2,7 +2,7 @@
 use Rattle.std.specs.Prelude.{◌≡◌, List, ℕ}
 use Rattle.rules.specs.Record.{Filter}
 use Rattle.rules.specs.Calls.{Outcome}
-use Rattle.filter.specs.Contracts as contract
+use Rattle.filter.specs.Promises as contract
 use Rattle.filter.specs.Restart.{restart}
 
 abbrev pub Of : (ℕ → Filter → List ℕ → List ℕ → List ℕ → Type 0) → Outcome → Type 0

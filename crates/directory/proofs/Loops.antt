@@ -14,12 +14,12 @@ use Rattle.lists.specs.Lists.{within, every, front, behind}
 use Rattle.lists.proofs.Tests.{true-test, test-true, and_left}
 use Rattle.slots.specs.Numbers.{limit}
 use Rattle.directory.specs.declared.Place.{Place}
-use Rattle.directory.specs.Places.{noPlace, taken, placesInUse, placesNotInUse, placesRight, zeroPlace, directoryRight, wordsTaken}
+use Rattle.directory.specs.Places.{no_place, taken, places_in_use, places_not_in_use, places_right, zero_place, directory_right, words_taken}
 use Rattle.directory.proofs.Front.{front-yes, front-no, behind-yes, behind-no, front_length, front-take}
 use Rattle.directory.proofs.Laws.{right-first, words_append, words-cons, words-none}
 
-step : (ps : List Place) → length ps ≡ 15 → (i : ℕ) → i < 15 → drop i ps ≡ get_or ps i noPlace ∷ drop (i + 1) ps
-step ps l i h = let k : i < length ps = omega arith in rw (add-one, drop-cons ps i noPlace)
+step : (ps : List Place) → length ps ≡ 15 → (i : ℕ) → i < 15 → drop i ps ≡ get_or ps i no_place ∷ drop (i + 1) ps
+step ps l i h = let k : i < length ps = omega arith in rw (add-one, drop-cons ps i no_place)
 
 past : (ps : List Place) → length ps ≡ 15 → (i : ℕ) → 15 ≤ i → drop i ps ≡ []
 past ps l i h = let k : length ps ≤ i = omega arith in drop_of_length-le ps k
@@ -32,53 +32,53 @@ is_free p e = ap not (eq-eqb p.b 0 e)
 
 -- ---- places in use
 
-module _ (ps : List Place) (l : length ps ≡ 15) (i : ℕ) (inv : length (placesInUse ps) ≡ i + length (placesInUse (drop i ps))) where
+module _ (ps : List Place) (l : length ps ≡ 15) (i : ℕ) (inv : length (places_in_use ps) ≡ i + length (places_in_use (drop i ps))) where
   module _ (h : i < 15) where
-    pub in-use-found : (get_or ps i noPlace).b ≡ 0 → i ≡ length (placesInUse ps)
+    pub in-use-found : (get_or ps i no_place).b ≡ 0 → i ≡ length (places_in_use ps)
     in-use-found e =
-        let z : length (placesInUse (drop i ps)) ≡ 0
-        = ap (λ l. length (placesInUse l)) (step ps l i h) ∙ ap length (front-no taken (get_or ps i noPlace) (drop (i + 1) ps) (is_free (get_or ps i noPlace) e)) in
+        let z : length (places_in_use (drop i ps)) ≡ 0
+        = ap (λ l. length (places_in_use l)) (step ps l i h) ∙ ap length (front-no taken (get_or ps i no_place) (drop (i + 1) ps) (is_free (get_or ps i no_place) e)) in
         omega arith
 
-    pub in-use-again : ((get_or ps i noPlace).b ≡ 0 → ⊥) → length (placesInUse ps) ≡ i + 1 + length (placesInUse (drop (i + 1) ps))
+    pub in-use-again : ((get_or ps i no_place).b ≡ 0 → ⊥) → length (places_in_use ps) ≡ i + 1 + length (places_in_use (drop (i + 1) ps))
     in-use-again e =
-        let z : length (placesInUse (drop i ps)) ≡ suc (length (placesInUse (drop (i + 1) ps)))
-        = ap (λ l. length (placesInUse l)) (step ps l i h) ∙ ap length (front-yes taken (get_or ps i noPlace) (drop (i + 1) ps) (is-taken (get_or ps i noPlace) e)) in
+        let z : length (places_in_use (drop i ps)) ≡ suc (length (places_in_use (drop (i + 1) ps)))
+        = ap (λ l. length (places_in_use l)) (step ps l i h) ∙ ap length (front-yes taken (get_or ps i no_place) (drop (i + 1) ps) (is-taken (get_or ps i no_place) e)) in
         omega arith
 
-  pub in-use-end : 15 ≤ i → i ≡ length (placesInUse ps)
+  pub in-use-end : 15 ≤ i → i ≡ length (places_in_use ps)
   unfolding front
   in-use-end h =
-      let z : length (placesInUse (drop i ps)) ≡ 0 = ap (λ l. length (placesInUse l)) (past ps l i h) in
+      let z : length (places_in_use (drop i ps)) ≡ 0 = ap (λ l. length (places_in_use l)) (past ps l i h) in
       omega arith
 
 -- ---- right places
 
 module _ (k last : ℕ) (p : Place) where
-  pub right-1 : p.b ≤ last → false ≡ placesRight k last (p ∷ [])
-  unfolding placesRight
+  pub right-1 : p.b ≤ last → false ≡ places_right k last (p ∷ [])
+  unfolding places_right
   right-1 h₁ = let e : leb (last + 1) p.b ≡ false = lt-leb (last + 1) p.b (omega arith) in rw e
 
   module _ (h₁ : last < p.b) where
     e₁ : leb (last + 1) p.b ≡ true
     e₁ = le-leb (last + 1) p.b (omega arith)
 
-    pub right-2 : k < p.b → false ≡ placesRight k last (p ∷ [])
-    unfolding placesRight
+    pub right-2 : k < p.b → false ≡ places_right k last (p ∷ [])
+    unfolding places_right
     right-2 h₂ = rw (e₁, lt-leb p.b k h₂)
 
     module _ (h₂ : p.b ≤ k) where
-      pub right-3 : p.s < 3 → false ≡ placesRight k last (p ∷ [])
-      unfolding placesRight
+      pub right-3 : p.s < 3 → false ≡ places_right k last (p ∷ [])
+      unfolding places_right
       right-3 h₃ = rw (e₁, le-leb p.b k h₂, lt-leb 3 p.s h₃)
 
       module _ (h₃ : 3 ≤ p.s) where
-        pub right-4 : p.b ≤ p.s → false ≡ placesRight k last (p ∷ [])
-        unfolding placesRight
+        pub right-4 : p.b ≤ p.s → false ≡ places_right k last (p ∷ [])
+        unfolding places_right
         right-4 h₄ = let e : leb p.s (p.b - 1) ≡ false = lt-leb p.s (p.b - 1) (omega arith) in rw (e₁, le-leb p.b k h₂, le-leb 3 p.s h₃, e)
 
-        pub right-5 : (m : ℕ) → p.s < p.b → m ≡ limit p.s → leb p.count m ≡ placesRight k last (p ∷ [])
-        unfolding placesRight
+        pub right-5 : (m : ℕ) → p.s < p.b → m ≡ limit p.s → leb p.count m ≡ places_right k last (p ∷ [])
+        unfolding places_right
         right-5 m h₄ e₅ =
             let e : leb p.s (p.b - 1) ≡ true = le-leb p.s (p.b - 1) (omega arith) in
             rw (e₁, le-leb p.b k h₂, le-leb 3 p.s h₃, e, ← e₅) (sym (and-true (leb p.count m)))
@@ -88,24 +88,24 @@ module _ (k last : ℕ) (p : Place) where
             and-true false = refl
 
 -- the rest are zero: `answer` is the test of those from i on
-module _ (ps : List Place) (l : length ps ≡ 15) (i : ℕ) (answer : Bool) (inv : answer ≡ every zeroPlace (drop i ps)) where
-  module _ (h : i < 15) (r : Bool) (e : r ≡ zeroPlace (get_or ps i noPlace)) where
-    zero-step : answer ≡ r && every zeroPlace (drop (i + 1) ps)
+module _ (ps : List Place) (l : length ps ≡ 15) (i : ℕ) (answer : Bool) (inv : answer ≡ every zero_place (drop i ps)) where
+  module _ (h : i < 15) (r : Bool) (e : r ≡ zero_place (get_or ps i no_place)) where
+    zero-step : answer ≡ r && every zero_place (drop (i + 1) ps)
     unfolding every
-    zero-step = inv ∙ ap (every zeroPlace) (step ps l i h) ∙ ap (λ t. t && every zeroPlace (drop (i + 1) ps)) (sym e)
+    zero-step = inv ∙ ap (every zero_place) (step ps l i h) ∙ ap (λ t. t && every zero_place (drop (i + 1) ps)) (sym e)
 
     pub zero-no : r ≡ false → false ≡ answer
-    zero-no f = sym (zero-step ∙ ap (λ t. t && every zeroPlace (drop (i + 1) ps)) f)
+    zero-no f = sym (zero-step ∙ ap (λ t. t && every zero_place (drop (i + 1) ps)) f)
 
-    pub zero-yes : r ≡ true → answer ≡ every zeroPlace (drop (i + 1) ps)
-    zero-yes f = zero-step ∙ ap (λ t. t && every zeroPlace (drop (i + 1) ps)) f
+    pub zero-yes : r ≡ true → answer ≡ every zero_place (drop (i + 1) ps)
+    zero-yes f = zero-step ∙ ap (λ t. t && every zero_place (drop (i + 1) ps)) f
 
 -- the directory from a place on, lengths above `last`
-abbrev pub rightFrom : ℕ → ℕ → List Place → Bool
-rightFrom k last ps = placesRight k last (placesInUse ps) && every zeroPlace (placesNotInUse ps)
+abbrev pub right_from : ℕ → ℕ → List Place → Bool
+right_from k last ps = places_right k last (places_in_use ps) && every zero_place (places_not_in_use ps)
 
-pub right-start : (k : ℕ) (ps : List Place) → directoryRight k ps ≡ rightFrom k 5 ps
-unfolding directoryRight
+pub right-start : (k : ℕ) (ps : List Place) → directory_right k ps ≡ right_from k 5 ps
+unfolding directory_right
 right-start k ps = refl
 
 regroup : (a b c d e : Bool) → (a && (b && (c && d))) && e ≡ (a && (b && (c && true))) && (d && e)
@@ -114,65 +114,65 @@ regroup true true false d e = refl
 regroup true false c d e = refl
 regroup false b c d e = refl
 
-module _ (k last : ℕ) (ps : List Place) (l : length ps ≡ 15) (i : ℕ) (answer : Bool) (inv : answer ≡ rightFrom k last (drop i ps)) where
+module _ (k last : ℕ) (ps : List Place) (l : length ps ≡ 15) (i : ℕ) (answer : Bool) (inv : answer ≡ right_from k last (drop i ps)) where
   module _ (h : i < 15) (r : Bool) where
-    pub right-free : (get_or ps i noPlace).b ≡ 0 → r ≡ every zeroPlace (drop i ps) → r ≡ answer
-    unfolding placesRight
+    pub right-free : (get_or ps i no_place).b ≡ 0 → r ≡ every zero_place (drop i ps) → r ≡ answer
+    unfolding places_right
     right-free e f =
-        let p = get_or ps i noPlace in
+        let p = get_or ps i no_place in
         let qs = drop (i + 1) ps in
-        let u : placesInUse (drop i ps) ≡ [] = ap placesInUse (step ps l i h) ∙ front-no taken p qs (is_free p e) in
-        let n : placesNotInUse (drop i ps) ≡ drop i ps = ap placesNotInUse (step ps l i h) ∙ behind-no taken p qs (is_free p e) ∙ sym (step ps l i h) in
-        f ∙ sym (inv ∙ ap (λ l. placesRight k last l && every zeroPlace (placesNotInUse (drop i ps))) u ∙ ap (every zeroPlace) n)
+        let u : places_in_use (drop i ps) ≡ [] = ap places_in_use (step ps l i h) ∙ front-no taken p qs (is_free p e) in
+        let n : places_not_in_use (drop i ps) ≡ drop i ps = ap places_not_in_use (step ps l i h) ∙ behind-no taken p qs (is_free p e) ∙ sym (step ps l i h) in
+        f ∙ sym (inv ∙ ap (λ l. places_right k last l && every zero_place (places_not_in_use (drop i ps))) u ∙ ap (every zero_place) n)
 
-    module _ (e : (get_or ps i noPlace).b ≡ 0 → ⊥) (f : r ≡ placesRight k last (get_or ps i noPlace ∷ [])) where
-      right-step : answer ≡ r && rightFrom k (get_or ps i noPlace).b (drop (i + 1) ps)
-      unfolding placesRight
+    module _ (e : (get_or ps i no_place).b ≡ 0 → ⊥) (f : r ≡ places_right k last (get_or ps i no_place ∷ [])) where
+      right-step : answer ≡ r && right_from k (get_or ps i no_place).b (drop (i + 1) ps)
+      unfolding places_right
       right-step =
-          let p = get_or ps i noPlace in
+          let p = get_or ps i no_place in
           let qs = drop (i + 1) ps in
-          let u : placesInUse (drop i ps) ≡ p ∷ placesInUse qs = ap placesInUse (step ps l i h) ∙ front-yes taken p qs (is-taken p e) in
-          let n : placesNotInUse (drop i ps) ≡ placesNotInUse qs = ap placesNotInUse (step ps l i h) ∙ behind-yes taken p qs (is-taken p e) in
+          let u : places_in_use (drop i ps) ≡ p ∷ places_in_use qs = ap places_in_use (step ps l i h) ∙ front-yes taken p qs (is-taken p e) in
+          let n : places_not_in_use (drop i ps) ≡ places_not_in_use qs = ap places_not_in_use (step ps l i h) ∙ behind-yes taken p qs (is-taken p e) in
           inv
-          ∙ ap (λ l. placesRight k last l && every zeroPlace (placesNotInUse (drop i ps))) u
-          ∙ ap (λ l. placesRight k last (p ∷ placesInUse qs) && every zeroPlace l) n
-          ∙ regroup (within (last + 1) k p.b) (within 3 (p.b - 1) p.s) (leb p.count (limit p.s)) (placesRight k p.b (placesInUse qs)) (every zeroPlace (placesNotInUse qs))
-          ∙ ap (λ t. t && rightFrom k p.b qs) (sym f)
+          ∙ ap (λ l. places_right k last l && every zero_place (places_not_in_use (drop i ps))) u
+          ∙ ap (λ l. places_right k last (p ∷ places_in_use qs) && every zero_place l) n
+          ∙ regroup (within (last + 1) k p.b) (within 3 (p.b - 1) p.s) (leb p.count (limit p.s)) (places_right k p.b (places_in_use qs)) (every zero_place (places_not_in_use qs))
+          ∙ ap (λ t. t && right_from k p.b qs) (sym f)
 
       pub right-no : r ≡ false → false ≡ answer
-      right-no g = sym (right-step ∙ ap (λ t. t && rightFrom k (get_or ps i noPlace).b (drop (i + 1) ps)) g)
+      right-no g = sym (right-step ∙ ap (λ t. t && right_from k (get_or ps i no_place).b (drop (i + 1) ps)) g)
 
-      pub right-yes : r ≡ true → answer ≡ rightFrom k (get_or ps i noPlace).b (drop (i + 1) ps)
-      right-yes g = right-step ∙ ap (λ t. t && rightFrom k (get_or ps i noPlace).b (drop (i + 1) ps)) g
+      pub right-yes : r ≡ true → answer ≡ right_from k (get_or ps i no_place).b (drop (i + 1) ps)
+      right-yes g = right-step ∙ ap (λ t. t && right_from k (get_or ps i no_place).b (drop (i + 1) ps)) g
 
   pub right_end : 15 ≤ i → true ≡ answer
-  unfolding placesRight every front behind
-  right_end h = sym (inv ∙ ap (rightFrom k last) (past ps l i h))
+  unfolding places_right every front behind
+  right_end h = sym (inv ∙ ap (right_from k last) (past ps l i h))
 
 -- ---- words
 
-pub words-start : (ps : List Place) → 0 ≡ wordsTaken (take 0 ps)
+pub words-start : (ps : List Place) → 0 ≡ words_taken (take 0 ps)
 words-start ps = sym words-none
 
-module _ (ps : List Place) (n : ℕ) (k : n ≤ length (placesInUse ps)) (i words : ℕ) (inv : words ≡ wordsTaken (take i ps)) where
-  pub words-again : (z : ℕ) → i < n → z ≡ 2 ^ (get_or ps i noPlace).s → words + z ≡ wordsTaken (take (i + 1) ps)
+module _ (ps : List Place) (n : ℕ) (k : n ≤ length (places_in_use ps)) (i words : ℕ) (inv : words ≡ words_taken (take i ps)) where
+  pub words-again : (z : ℕ) → i < n → z ≡ 2 ^ (get_or ps i no_place).s → words + z ≡ words_taken (take (i + 1) ps)
   words-again z h f =
-      let p = get_or ps i noPlace in
+      let p = get_or ps i no_place in
       let g : i < length ps = omega (arith, front_length taken ps) in
-      let t : wordsTaken (take (i + 1) ps) ≡ wordsTaken (take i ps ++ p ∷ []) = rw (add-one, take-suc ps i noPlace) in
-      let w : wordsTaken (take (i + 1) ps) ≡ words + (z + 0) = t ∙ words_append (take i ps) (p ∷ []) ∙ cc (words-cons p [], words-none) in
+      let t : words_taken (take (i + 1) ps) ≡ words_taken (take i ps ++ p ∷ []) = rw (add-one, take-suc ps i no_place) in
+      let w : words_taken (take (i + 1) ps) ≡ words + (z + 0) = t ∙ words_append (take i ps) (p ∷ []) ∙ cc (words-cons p [], words-none) in
       omega arith
 
-  pub words-end : i ≤ n → n ≤ i → words ≡ wordsTaken (take n (placesInUse ps))
+  pub words-end : i ≤ n → n ≤ i → words ≡ words_taken (take n (places_in_use ps))
   words-end h g =
       let f : i ≡ n = omega arith in
-      inv ∙ ap (λ (j : ℕ). wordsTaken (take j ps)) f ∙ sym (ap wordsTaken (front-take taken ps n k))
+      inv ∙ ap (λ (j : ℕ). words_taken (take j ps)) f ∙ sym (ap words_taken (front-take taken ps n k))
 
 -- ---- right, and the words, in one walk
 
 -- behind a place that is not in use: no length is above k and at most k
-pub right-past : (k : ℕ) (ps : List Place) → rightFrom k k ps ≡ every zeroPlace ps
-unfolding placesRight every front behind
+pub right-past : (k : ℕ) (ps : List Place) → right_from k k ps ≡ every zero_place ps
+unfolding places_right every front behind
 right-past k [] = refl
 right-past k (p ∷ ps) = go (ℕ_discrete p.b 0)
   where
@@ -183,21 +183,21 @@ right-past k (p ∷ ps) = go (ℕ_discrete p.b 0)
         pick (yes l) = rw (le-leb (k + 1) p.b l, lt-leb p.b k (omega arith))
         pick (no l) = rw (lt-leb (k + 1) p.b (omega arith))
 
-    go : Dec (p.b ≡ 0) → rightFrom k k (p ∷ ps) ≡ every zeroPlace (p ∷ ps)
+    go : Dec (p.b ≡ 0) → right_from k k (p ∷ ps) ≡ every zero_place (p ∷ ps)
     go (yes e) = rw (front-no taken p ps (is_free p e), behind-no taken p ps (is_free p e))
     go (no e) = rw (front-yes taken p ps (is-taken p e), behind-yes taken p ps (is-taken p e), none, ne_eqb p.b 0 e)
 
-none-in-use : (ps : List Place) → every zeroPlace ps ≡ true → placesInUse ps ≡ []
+none-in-use : (ps : List Place) → every zero_place ps ≡ true → places_in_use ps ≡ []
 unfolding every front
 none-in-use [] e = refl
 none-in-use (p ∷ ps) e =
-    let z = and_left (zeroPlace p) (every zeroPlace ps) (true-test _ e) in
+    let z = and_left (zero_place p) (every zero_place ps) (true-test _ e) in
     front-no taken p ps (is_free p (eqb→eq _ _ (and_left (eqb p.b 0) (eqb p.s 0 && eqb p.count 0) z)))
 
 -- before place i: what is left decides, and the words so far and those left are all, where the directory is right
 pub record Walk (k : ℕ) (ps : List Place) (last words i : ℕ) : Type 0 where
-  pub rest : directoryRight k ps ≡ rightFrom k last (drop i ps)
-  pub all : T (directoryRight k ps) → words + wordsTaken (placesInUse (drop i ps)) ≡ wordsTaken (placesInUse ps)
+  pub rest : directory_right k ps ≡ right_from k last (drop i ps)
+  pub all : T (directory_right k ps) → words + words_taken (places_in_use (drop i ps)) ≡ words_taken (places_in_use ps)
 
 abbrev pub Walked : ℕ → List Place → ℕ → ℕ → ℕ → Type 0
 Walked k ps last words i = (i ≤ 15) × ((words ≤ i * 1048576) × Walk k ps last words i)
@@ -207,60 +207,60 @@ walk_start k ps = (omega arith, (omega arith, record { rest = right-start k ps; 
 
 module _ (k last : ℕ) (ps : List Place) (l : length ps ≡ 15) (i words : ℕ) (w : Walked k ps last words i) where
   module _ (h : i < 15) (r : Bool) where
-    module _ (e : (get_or ps i noPlace).b ≡ 0) (f : r ≡ zeroPlace (get_or ps i noPlace)) where
-      rest-zero : directoryRight k ps ≡ every zeroPlace (drop i ps)
-      rest-zero = sym (right-free k last ps l i (directoryRight k ps) w.1.1.rest h (every zeroPlace (drop i ps)) e refl)
+    module _ (e : (get_or ps i no_place).b ≡ 0) (f : r ≡ zero_place (get_or ps i no_place)) where
+      rest-zero : directory_right k ps ≡ every zero_place (drop i ps)
+      rest-zero = sym (right-free k last ps l i (directory_right k ps) w.1.1.rest h (every zero_place (drop i ps)) e refl)
 
-      pub free-wrong : r ≡ false → false ≡ directoryRight k ps
-      free-wrong g = zero-no ps l i (directoryRight k ps) rest-zero h r f g
+      pub free-wrong : r ≡ false → false ≡ directory_right k ps
+      free-wrong g = zero-no ps l i (directory_right k ps) rest-zero h r f g
 
       pub free_step : r ≡ true → (last' words' : ℕ) → last' ≡ k → words' ≡ words → Walked k ps last' words' (i + 1)
       free_step g last' words' el ew =
-          let z : directoryRight k ps ≡ every zeroPlace (drop (i + 1) ps) = zero-yes ps l i (directoryRight k ps) rest-zero h r f g in
-          let u : placesInUse (drop i ps) ≡ [] = ap placesInUse (step ps l i h) ∙ front-no taken (get_or ps i noPlace) (drop (i + 1) ps) (is_free (get_or ps i noPlace) e) in (
+          let z : directory_right k ps ≡ every zero_place (drop (i + 1) ps) = zero-yes ps l i (directory_right k ps) rest-zero h r f g in
+          let u : places_in_use (drop i ps) ≡ [] = ap places_in_use (step ps l i h) ∙ front-no taken (get_or ps i no_place) (drop (i + 1) ps) (is_free (get_or ps i no_place) e) in (
             omega arith,
             (
               omega (arith, w.1.0),
               record {
-                rest = z ∙ sym (right-past k (drop (i + 1) ps)) ∙ ap (λ (n : ℕ). rightFrom k n (drop (i + 1) ps)) (sym el);
-                all = λ t. ap (λ (n : ℕ). n + wordsTaken (placesInUse (drop (i + 1) ps))) ew
-                    ∙ ap (λ (q : List Place). words + wordsTaken q) (none-in-use (drop (i + 1) ps) (sym z ∙ test-true _ t) ∙ sym u)
+                rest = z ∙ sym (right-past k (drop (i + 1) ps)) ∙ ap (λ (n : ℕ). right_from k n (drop (i + 1) ps)) (sym el);
+                all = λ t. ap (λ (n : ℕ). n + words_taken (places_in_use (drop (i + 1) ps))) ew
+                    ∙ ap (λ (q : List Place). words + words_taken q) (none-in-use (drop (i + 1) ps) (sym z ∙ test-true _ t) ∙ sym u)
                     ∙ w.1.1.all t;
               },
             ),
           )
 
-    module _ (e : (get_or ps i noPlace).b ≡ 0 → ⊥) (f : r ≡ placesRight k last (get_or ps i noPlace ∷ [])) where
-      pub used-wrong : r ≡ false → false ≡ directoryRight k ps
-      used-wrong g = right-no k last ps l i (directoryRight k ps) w.1.1.rest h r e f g
+    module _ (e : (get_or ps i no_place).b ≡ 0 → ⊥) (f : r ≡ places_right k last (get_or ps i no_place ∷ [])) where
+      pub used-wrong : r ≡ false → false ≡ directory_right k ps
+      used-wrong g = right-no k last ps l i (directory_right k ps) w.1.1.rest h r e f g
 
-      pub used-small : k ≤ 20 → r ≡ true → (get_or ps i noPlace).s ≤ 20
+      pub used-small : k ≤ 20 → r ≡ true → (get_or ps i no_place).s ≤ 20
       used-small k20 g =
-          let q = right-first k last (get_or ps i noPlace) [] (true-test _ (sym f ∙ g)) in
+          let q = right-first k last (get_or ps i no_place) [] (true-test _ (sym f ∙ g)) in
           omega (arith, q.b-high, q.s-high)
 
-      pub used_step : r ≡ true → (z : ℕ) → (z ≡ 2 ^ (get_or ps i noPlace).s) × (z ≤ 1048576) → (last' words' : ℕ) → last' ≡ (get_or ps i noPlace).b → words' ≡ words + z
+      pub used_step : r ≡ true → (z : ℕ) → (z ≡ 2 ^ (get_or ps i no_place).s) × (z ≤ 1048576) → (last' words' : ℕ) → last' ≡ (get_or ps i no_place).b → words' ≡ words + z
           → Walked k ps last' words' (i + 1)
       used_step g z ez last' words' el ew =
-          let p = get_or ps i noPlace in
+          let p = get_or ps i no_place in
           let qs = drop (i + 1) ps in
-          let u : placesInUse (drop i ps) ≡ p ∷ placesInUse qs = ap placesInUse (step ps l i h) ∙ front-yes taken p qs (is-taken p e) in
-          let s : wordsTaken (placesInUse (drop i ps)) ≡ 2 ^ p.s + wordsTaken (placesInUse qs) = ap wordsTaken u ∙ words-cons p (placesInUse qs) in (
+          let u : places_in_use (drop i ps) ≡ p ∷ places_in_use qs = ap places_in_use (step ps l i h) ∙ front-yes taken p qs (is-taken p e) in
+          let s : words_taken (places_in_use (drop i ps)) ≡ 2 ^ p.s + words_taken (places_in_use qs) = ap words_taken u ∙ words-cons p (places_in_use qs) in (
             omega arith,
             (
               omega (arith, w.1.0, ez.1, ew),
               record {
-                rest = right-yes k last ps l i (directoryRight k ps) w.1.1.rest h r e f g ∙ ap (λ (n : ℕ). rightFrom k n qs) (sym el);
+                rest = right-yes k last ps l i (directory_right k ps) w.1.1.rest h r e f g ∙ ap (λ (n : ℕ). right_from k n qs) (sym el);
                 all = λ t. omega (arith, w.1.1.all t, s, ew, ez.0);
               },
             ),
           )
 
-  pub walk_end : 15 ≤ i → (true ≡ directoryRight k ps) × (T (directoryRight k ps) → words ≡ wordsTaken (placesInUse ps))
+  pub walk_end : 15 ≤ i → (true ≡ directory_right k ps) × (T (directory_right k ps) → words ≡ words_taken (places_in_use ps))
   unfolding front
   walk_end h =
-      let n : wordsTaken (placesInUse (drop i ps)) ≡ 0 = ap (λ (q : List Place). wordsTaken (placesInUse q)) (past ps l i h) ∙ words-none in
-      (right_end k last ps l i (directoryRight k ps) w.1.1.rest h, λ t. omega (arith, w.1.1.all t, n))
+      let n : words_taken (places_in_use (drop i ps)) ≡ 0 = ap (λ (q : List Place). words_taken (places_in_use q)) (past ps l i h) ∙ words-none in
+      (right_end k last ps l i (directory_right k ps) w.1.1.rest h, λ t. omega (arith, w.1.1.all t, n))
 
-pub walk-wrong : (k : ℕ) (ps : List Place) → false ≡ directoryRight k ps → (false ≡ directoryRight k ps) × (T (directoryRight k ps) → 0 ≡ wordsTaken (placesInUse ps))
+pub walk-wrong : (k : ℕ) (ps : List Place) → false ≡ directory_right k ps → (false ≡ directory_right k ps) × (T (directory_right k ps) → 0 ≡ words_taken (places_in_use ps))
 walk-wrong k ps e = (e, λ t. absurd (subst T (sym e) t))

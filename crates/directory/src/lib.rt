@@ -1,6 +1,6 @@
 // The annex directory: an array of fifteen small structs, passed by value.
 ghost use Rattle.std.specs.Prelude.{◌≡◌, ◌∷◌, [], ℕ, ◌*◌, ◌≤◌, ◌^◌, T, length, get_or, take};
-ghost use Rattle.directory.specs.Places.{noPlace, placesInUse, placesRight, zeroPlace, directoryRight, wordsTaken};
+ghost use Rattle.directory.specs.Places.{no_place, places_in_use, places_right, zero_place, directory_right, words_taken};
 
 #[repr(C)]
 #[derive(Drop)]
@@ -12,7 +12,7 @@ pub struct Place {
 
 // How many places are in use.
 pub fn places_in_use(places: [Place; 15]) -> usize
-    ensures { (result ≡ length (placesInUse places)) × (result ≤ 15) }
+    ensures { (result ≡ length (places_in_use places)) × (result ≤ 15) }
 {
     let mut i: usize = 0;
     while i < 15 {
@@ -26,7 +26,7 @@ pub fn places_in_use(places: [Place; 15]) -> usize
 }
 
 fn zero_place(p: Place) -> bool
-    ensures { result ≡ zeroPlace p }
+    ensures { result ≡ zero_place p }
 {
     (p.b == 0) & ((p.s == 0) & (p.count == 0))
 }
@@ -34,7 +34,7 @@ fn zero_place(p: Place) -> bool
 // Whether a place in use may follow one of length `last`.
 fn place_right(k: u32, last: u32, p: Place) -> bool
     requires { k ≤ 20 }
-    ensures { result ≡ placesRight k last (p ∷ []) }
+    ensures { result ≡ places_right k last (p ∷ []) }
 {
     if p.b <= last {
         return false;
@@ -69,7 +69,7 @@ pub struct Reading {
 // Both in one walk. Behind a place that is not in use no length is above `last` and at most k.
 pub fn read(k: u32, places: [Place; 15]) -> Reading
     requires { k ≤ 20 }
-    ensures { (result.right ≡ directoryRight k places) × (T (directoryRight k places) → result.words ≡ wordsTaken (placesInUse places)) }
+    ensures { (result.right ≡ directory_right k places) × (T (directory_right k places) → result.words ≡ words_taken (places_in_use places)) }
 {
     let mut last: u32 = 5;
     let mut words: usize = 0;
@@ -106,8 +106,8 @@ pub fn read(k: u32, places: [Place; 15]) -> Reading
 
 // The words of the first n tables: the offset of the table at place n.
 pub fn words_taken(places: [Place; 15], n: usize) -> usize
-    requires { (n ≤ length (placesInUse places)) × ((j : ℕ) → (get_or places j noPlace).s ≤ 20) }
-    ensures { (result ≡ wordsTaken (take n (placesInUse places))) × (result ≤ 15 * 1048576) }
+    requires { (n ≤ length (places_in_use places)) × ((j : ℕ) → (get_or places j no_place).s ≤ 20) }
+    ensures { (result ≡ words_taken (take n (places_in_use places))) × (result ≤ 15 * 1048576) }
 {
     let mut words: usize = 0;
     let mut next: usize = 0;

@@ -19,11 +19,11 @@ use Rattle.slots.specs.Numbers.{limit}
 use Rattle.slots.proofs.NumberLaws.{limit-lt}
 use Rattle.layout.specs.Decode.{decode, run_at}
 use Rattle.directory.specs.declared.Place.{Place}
-use Rattle.directory.specs.Places.{placesInUse, placesNotInUse, placesRight, zeroPlace}
-use Rattle.rules.specs.Record.{Filter, width, width_at, inUse, annexUsed}
-use Rattle.rules.specs.Sound.{mainEntry}
-use Rattle.rules.specs.Doubling.{doubled, newHashes, size_for}
-use Rattle.rules.specs.Slow.{hashes, room_for, doubledRuns}
+use Rattle.directory.specs.Places.{places_in_use, places_not_in_use, places_right, zero_place}
+use Rattle.rules.specs.Record.{Filter, width, width_at, in_use, annex_used}
+use Rattle.rules.specs.Sound.{main_entry}
+use Rattle.rules.specs.Doubling.{doubled, new_hashes, size_for}
+use Rattle.rules.specs.Slow.{hashes, room_for, doubled_runs}
 use Rattle.keeps.proofs.Holds.{length-words}
 use Rattle.keeps.proofs.State.{Good, Fine, fine}
 use Rattle.keeps.proofs.Bounds.{Bounds, bounds, width-pos, width-26, width-rises, place-fine, places-few}
@@ -36,7 +36,7 @@ use Rattle.arriving.specs.Arrivals.{Narrow, Size}
 use Rattle.arriving.proofs.Arrivals.{decode-get}
 use Rattle.doubling.specs.Accepted.{Accepted}
 
-few-places : (k : ℕ) (ps : List Place) → k < 20 → T (placesRight k 5 ps) → length ps < 15
+few-places : (k : ℕ) (ps : List Place) → k < 20 → T (places_right k 5 ps) → length ps < 15
 few-places k [] h t = omega arith
 few-places k (p ∷ ps) h t =
     let f = place-fine k 5 p ps t in
@@ -54,15 +54,15 @@ pub record Facts (main second annex : List ℕ) (k w v taken n : ℕ) (places : 
   pub few : total (doubled w v (decode main)) < length second
   pub main-long : length main ≡ 2 ^ k
   pub k-19 : k ≤ 19
-  pub counted : n ≡ length (newHashes w k 0 (decode main))
+  pub counted : n ≡ length (new_hashes w k 0 (decode main))
   pub s-3 : 3 ≤ size_for n
   pub s-k : size_for n ≤ k
   pub fits : n < 2 ^ size_for n
   pub size : 2 ^ size_for n ≤ 1048576
   pub room : (n ≡ 0 → ⊥) → taken + 2 ^ size_for n ≤ length annex
   pub taken-small : taken ≤ 1048576
-  pub free : length (placesInUse places) < 15
-  pub zeros : T (every zeroPlace (placesNotInUse places))
+  pub free : length (places_in_use places) < 15
+  pub zeros : T (every zero_place (places_not_in_use places))
 
 -- ---- a good state
 
@@ -85,11 +85,11 @@ module _ (r : Filter) (main queue annex : List ℕ) (g : Good r main queue annex
   narrow : Narrow (width r) main
   narrow c t h = go (dec_lt t (length (run_at main c)))
     where
-      all : All (λ p. T (mainEntry (width r) r.k p)) (run_at main c)
-      all = subst (All (λ p. T (mainEntry (width r) r.k p))) (decode-get main c h) (all_any (λ p. T (mainEntry (width r) r.k p)) (decode main) c f.table.passes)
+      all : All (λ p. T (main_entry (width r) r.k p)) (run_at main c)
+      all = subst (All (λ p. T (main_entry (width r) r.k p))) (decode-get main c h) (all_any (λ p. T (main_entry (width r) r.k p)) (decode main) c f.table.passes)
 
       go : Dec (t < length (run_at main c)) → get_or (run_at main c) t 0 < 2 ^ width r
-      go (yes l) = passes-lt (width r) r.k (get_or (run_at main c) t 0) (all-get (λ p. T (mainEntry (width r) r.k p)) (run_at main c) 0 all t l)
+      go (yes l) = passes-lt (width r) r.k (get_or (run_at main c) t 0) (all-get (λ p. T (main_entry (width r) r.k p)) (run_at main c) 0 all t l)
       go (no l) = omega (arith, get_or-eq_default (run_at main c) 0 {n = t} (omega arith), pow_pos (width r))
 
   -- what `count_new` asks
@@ -114,7 +114,7 @@ module _ (r : Filter) (main second queue annex : List ℕ) (d : DoubleHad r main
 
   few : total (doubled (width r) (width_at r (r.k + 1)) (decode main)) < length second
   few =
-      let l : total (doubled (width r) (width_at r (r.k + 1)) (decode main)) ≤ limit (r.k + 1) = unfold doubledRuns in few₂ r main queue annex f₂ d.less d.empty in
+      let l : total (doubled (width r) (width_at r (r.k + 1)) (decode main)) ≤ limit (r.k + 1) = unfold doubled_runs in few₂ r main queue annex f₂ d.less d.empty in
       omega (arith, limit-lt (r.k + 1), d.long)
 
   hash-count : length (hashes r main queue annex) ≤ limit r.k
@@ -124,13 +124,13 @@ module _ (r : Filter) (main second queue annex : List ℕ) (d : DoubleHad r main
   sized : Sized r.k (length (hashes r main queue annex)) (size_for (length (hashes r main queue annex)))
   sized = size-for (length (hashes r main queue annex)) r.k b₂.k_3 b₂.k-20 hash-count
 
-  room : (length (hashes r main queue annex) ≡ 0 → ⊥) → annexUsed r + 2 ^ size_for (length (hashes r main queue annex)) ≤ length annex
+  room : (length (hashes r main queue annex) ≡ 0 → ⊥) → annex_used r + 2 ^ size_for (length (hashes r main queue annex)) ≤ length annex
   unfolding room_for
   room n =
       let ms : List ℕ = hashes r main queue annex in
-      leb→le _ _ (subst (λ (x : Bool). T (x || leb (annexUsed r + 2 ^ size_for (length ms)) (length annex))) (ne_eqb (length ms) 0 n) d.room)
+      leb→le _ _ (subst (λ (x : Bool). T (x || leb (annex_used r + 2 ^ size_for (length ms)) (length annex))) (ne_eqb (length ms) 0 n) d.room)
 
-  own : Facts main second annex r.k (width r) (width_at r (r.k + 1)) (annexUsed r) (length (hashes r main queue annex)) r.dir
+  own : Facts main second annex r.k (width r) (width_at r (r.k + 1)) (annex_used r) (length (hashes r main queue annex)) r.dir
   own =
       let s : ℕ = size_for (length (hashes r main queue annex)) in
       record {
@@ -152,7 +152,7 @@ module _ (r : Filter) (main second queue annex : List ℕ) (d : DoubleHad r main
         size = omega (arith, pow_mono {i = s} {j = r.k} sized.high, b₂.slots);
         room = room;
         taken-small = b₂.annex-small;
-        free = few-places r.k (inUse r) d.less f₂.places;
+        free = few-places r.k (in_use r) d.less f₂.places;
         zeros = f₂.zeros;
       }
 
@@ -166,6 +166,6 @@ facts main second annex k w v taken n places g =
     (subst (λ (x : ℕ). Facts main second annex r.k x v taken n places) (sym e.is-w)
     (subst (λ (x : ℕ). Facts main second annex r.k (width r) x taken n places) (sym e.is-v)
     (subst (λ (x : ℕ). Facts main second annex r.k (width r) (width_at r (r.k + 1)) x n places) (sym e.is-taken)
-    (subst (λ (x : ℕ). Facts main second annex r.k (width r) (width_at r (r.k + 1)) (annexUsed r) x places) (sym e.is-n)
-    (subst (λ (x : List Place). Facts main second annex r.k (width r) (width_at r (r.k + 1)) (annexUsed r) (length (hashes r main q annex)) x) (sym e.is-places)
+    (subst (λ (x : ℕ). Facts main second annex r.k (width r) (width_at r (r.k + 1)) (annex_used r) x places) (sym e.is-n)
+    (subst (λ (x : List Place). Facts main second annex r.k (width r) (width_at r (r.k + 1)) (annex_used r) (length (hashes r main q annex)) x) (sym e.is-places)
     (own r main second q annex (number-had r main q annex second g.number)))))))

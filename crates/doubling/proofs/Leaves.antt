@@ -9,7 +9,7 @@ use native.Mathlib.Decide.{dec_le}
 use lib.Dec.{leb, eqb}
 use borrow.Author.Tests.{le-leb, lt-leb, eq-eqb, ne_eqb}
 use Rattle.slots.specs.Payload.{pay}
-use Rattle.rules.specs.Tables.{hashEntry}
+use Rattle.rules.specs.Tables.{hash_entry}
 use Rattle.rules.specs.Doubling.{size_for}
 use Rattle.keeps.proofs.Mothers.{hash-fits}
 use Rattle.arriving.proofs.Payloads.{pay-small}
@@ -28,7 +28,7 @@ address-high c p k x h z e =
 pub hash-small : (b s m x : ℕ) → m < 2 ^ b → s ≤ b → x ≡ 2 ^ s → m / x < 2 ^ (b - s)
 hash-small b s m x a h e = subst (λ (y : ℕ). m / y < 2 ^ (b - s)) (sym e) (hash-fits b s m h a)
 
-pub hash-entry : (b s m x r : ℕ) → m < 2 ^ b → 3 ≤ s → s ≤ b → b ≤ 20 → x ≡ 2 ^ s → r ≡ pay 18 (b - s) (m / x) → (r ≡ hashEntry b s m) × (r < 536870912)
+pub hash-entry : (b s m x r : ℕ) → m < 2 ^ b → 3 ≤ s → s ≤ b → b ≤ 20 → x ≡ 2 ^ s → r ≡ pay 18 (b - s) (m / x) → (r ≡ hash_entry b s m) × (r < 536870912)
 hash-entry b s m x r a h l t e er =
     (er ∙ ap (λ (y : ℕ). pay 18 (b - s) (m / y)) e, pay-small 18 (b - s) (m / x) r (omega arith) (omega arith) (hash-small b s m x a l e) er)
 

@@ -11,10 +11,10 @@ use Rattle.lists.specs.Runs.{total}
 use Rattle.layout.specs.Machine.{layout}
 use Rattle.layout.specs.Decode.{decode}
 use Rattle.directory.specs.declared.Place.{Place}
-use Rattle.directory.specs.Places.{placesInUse, fifteen}
-use Rattle.rules.specs.Record.{Filter, width, inUse, annexUsed}
-use Rattle.rules.specs.Doubling.{doubled, newHashes, size_for, table_of}
-use Rattle.rules.specs.Slow.{hashes, room_for, doubledRuns, moreAnnex, moreDir}
+use Rattle.directory.specs.Places.{places_in_use, fifteen}
+use Rattle.rules.specs.Record.{Filter, width, in_use, annex_used}
+use Rattle.rules.specs.Doubling.{doubled, new_hashes, size_for, table_of}
+use Rattle.rules.specs.Slow.{hashes, room_for, doubled_runs, more_annex, more_dir}
 use Rattle.doubling.specs.Accepted.{Numbers, Done}
 
 -- a part of the annex
@@ -22,47 +22,47 @@ pub part_length : (annex : List ℕ) (taken x : ℕ) → taken + x ≤ length an
 part_length annex taken x h = let e : taken + x - taken ≡ x = omega arith in rw e (length-take x (drop taken annex) ∙ omega (arith, length-drop taken annex))
 
 module _ (r : Filter) (main queue annex : List ℕ) where
-  none-annex : (ms : List ℕ) → length ms ≡ 0 → annex ≡ moreAnnex r main queue annex ms
-  unfolding moreAnnex
+  none-annex : (ms : List ℕ) → length ms ≡ 0 → annex ≡ more_annex r main queue annex ms
+  unfolding more_annex
   none-annex [] e = refl
   none-annex (m ∷ ms) e = absurd (omega arith)
 
-  none-dir : (ms : List ℕ) → length ms ≡ 0 → r.dir ≡ moreDir r main queue annex ms
-  unfolding moreDir
+  none-dir : (ms : List ℕ) → length ms ≡ 0 → r.dir ≡ more_dir r main queue annex ms
+  unfolding more_dir
   none-dir [] e = refl
   none-dir (m ∷ ms) e = absurd (omega arith)
 
   some-annex : (ms : List ℕ) → (length ms ≡ 0 → ⊥)
-      → take (annexUsed r) annex ++ layout (table_of (r.k + 1) (size_for (length ms)) ms) ++ drop (annexUsed r + 2 ^ size_for (length ms)) annex ≡ moreAnnex r main queue annex ms
-  unfolding moreAnnex
+      → take (annex_used r) annex ++ layout (table_of (r.k + 1) (size_for (length ms)) ms) ++ drop (annex_used r + 2 ^ size_for (length ms)) annex ≡ more_annex r main queue annex ms
+  unfolding more_annex
   some-annex [] e = absurd (e refl)
   some-annex (m ∷ ms) e = refl
 
   some-dir : (ms : List ℕ) → (length ms ≡ 0 → ⊥)
-      → fifteen (inUse r ++ (record { b = r.k + 1; s = size_for (length ms); count = length ms } ∷ [])) ≡ moreDir r main queue annex ms
-  unfolding moreDir
+      → fifteen (in_use r ++ (record { b = r.k + 1; s = size_for (length ms); count = length ms } ∷ [])) ≡ more_dir r main queue annex ms
+  unfolding more_dir
   some-dir [] e = absurd (e refl)
   some-dir (m ∷ ms) e = refl
 
   -- what `count_new` and `room_for` answer, in the words of the rules
-  pub count-is : (w n : ℕ) → w ≡ width r → ((k : ℕ) → n ≡ length (newHashes w k 0 (decode main))) → n ≡ length (hashes r main queue annex)
+  pub count-is : (w n : ℕ) → w ≡ width r → ((k : ℕ) → n ≡ length (new_hashes w k 0 (decode main))) → n ≡ length (hashes r main queue annex)
   unfolding hashes
-  count-is w n e h = h r.k ∙ ap (λ (x : ℕ). length (newHashes x r.k 0 (decode main))) e
+  count-is w n e h = h r.k ∙ ap (λ (x : ℕ). length (new_hashes x r.k 0 (decode main))) e
 
-  pub room-is : (taken n : ℕ) → taken ≡ annexUsed r → n ≡ length (hashes r main queue annex)
+  pub room-is : (taken n : ℕ) → taken ≡ annex_used r → n ≡ length (hashes r main queue annex)
       → (eqb n 0 || leb (taken + 2 ^ size_for n) (length annex)) ≡ room_for r main queue annex (hashes r main queue annex)
   unfolding room_for
   room-is taken n e f = ap₂ (λ (x y : ℕ). eqb y 0 || leb (x + 2 ^ size_for y) (length annex)) e f
 
   module _ (k w v taken n : ℕ) (places : List Place) (e : Numbers r main queue annex k w v taken n places) (second : List ℕ) (used : ℕ)
       (es : second ≡ layout (doubled w v (decode main))) (eu : used ≡ total (doubled w v (decode main))) where
-    runs-are : doubled w v (decode main) ≡ doubledRuns r main queue annex
-    unfolding doubledRuns
+    runs-are : doubled w v (decode main) ≡ doubled_runs r main queue annex
+    unfolding doubled_runs
     runs-are = ap₂ (λ (x y : ℕ). doubled x y (decode main)) e.is-w e.is-v
 
-    hashes-are : newHashes w k 0 (decode main) ≡ hashes r main queue annex
+    hashes-are : new_hashes w k 0 (decode main) ≡ hashes r main queue annex
     unfolding hashes
-    hashes-are = ap₂ (λ (x y : ℕ). newHashes x y 0 (decode main)) e.is-w e.is-k
+    hashes-are = ap₂ (λ (x y : ℕ). new_hashes x y 0 (decode main)) e.is-w e.is-k
 
     pub done_none : n ≡ 0 → Done r main queue annex second annex used places
     done_none z =
@@ -76,7 +76,7 @@ module _ (r : Filter) (main queue annex : List ℕ) where
         }
 
     pub done-some : (s x : ℕ) (part : List ℕ) (more : List Place) → (n ≡ 0 → ⊥) → s ≡ size_for n → x ≡ 2 ^ s
-        → part ≡ layout (table_of (k + 1) s (newHashes w k 0 (decode main))) → more ≡ fifteen (placesInUse places ++ (record { b = k + 1; s = s; count = n } ∷ []))
+        → part ≡ layout (table_of (k + 1) s (new_hashes w k 0 (decode main))) → more ≡ fifteen (places_in_use places ++ (record { b = k + 1; s = s; count = n } ∷ []))
         → Done r main queue annex second (take taken annex ++ (part ++ drop (taken + x - taken) (drop taken annex))) used more
     done-some s x part more z e-s e-x e-part e-more =
         record {
@@ -95,7 +95,7 @@ module _ (r : Filter) (main queue annex : List ℕ) where
         size_is : s ≡ size_for (length ms)
         size_is = e-s ∙ ap size_for e.is-n
 
-        ends : taken + (taken + x - taken) ≡ annexUsed r + 2 ^ size_for (length ms)
+        ends : taken + (taken + x - taken) ≡ annex_used r + 2 ^ size_for (length ms)
         ends = omega (arith, e.is-taken, e-x, ap (λ (y : ℕ). 2 ^ y) size_is)
 
         table_is : part ≡ layout (table_of (r.k + 1) (size_for (length ms)) ms)
@@ -103,17 +103,17 @@ module _ (r : Filter) (main queue annex : List ℕ) where
             e-part ∙ ap (λ (l : List ℕ). layout (table_of (k + 1) s l)) hashes-are
             ∙ ap₂ (λ (x y : ℕ). layout (table_of (x + 1) y ms)) e.is-k size_is
 
-        words : take taken annex ++ (part ++ drop (annexUsed r + 2 ^ size_for (length ms)) annex)
-            ≡ take (annexUsed r) annex ++ layout (table_of (r.k + 1) (size_for (length ms)) ms) ++ drop (annexUsed r + 2 ^ size_for (length ms)) annex
+        words : take taken annex ++ (part ++ drop (annex_used r + 2 ^ size_for (length ms)) annex)
+            ≡ take (annex_used r) annex ++ layout (table_of (r.k + 1) (size_for (length ms)) ms) ++ drop (annex_used r + 2 ^ size_for (length ms)) annex
         words =
-            ap₂ (λ (x : ℕ) (l : List ℕ). take x annex ++ (l ++ drop (annexUsed r + 2 ^ size_for (length ms)) annex)) e.is-taken table_is
-            ∙ sym (append_assoc (take (annexUsed r) annex) (layout (table_of (r.k + 1) (size_for (length ms)) ms)) (drop (annexUsed r + 2 ^ size_for (length ms)) annex))
+            ap₂ (λ (x : ℕ) (l : List ℕ). take x annex ++ (l ++ drop (annex_used r + 2 ^ size_for (length ms)) annex)) e.is-taken table_is
+            ∙ sym (append_assoc (take (annex_used r) annex) (layout (table_of (r.k + 1) (size_for (length ms)) ms)) (drop (annex_used r + 2 ^ size_for (length ms)) annex))
 
         place_is : (a b c d f g : ℕ) → a ≡ b → c ≡ d → f ≡ g → ◌≡◌ {A = Place} (record { b = a; s = c; count = f }) (record { b = b; s = d; count = g })
         place_is a b c d f g p q t = ap₂ (λ (x y : ℕ). record { b = x; s = y; count = f }) p q ∙ ap (λ (x : ℕ). record { b = b; s = d; count = x }) t
 
-        dir : fifteen (placesInUse places ++ (record { b = k + 1; s = s; count = n } ∷ []))
-            ≡ fifteen (inUse r ++ (record { b = r.k + 1; s = size_for (length ms); count = length ms } ∷ []))
+        dir : fifteen (places_in_use places ++ (record { b = k + 1; s = s; count = n } ∷ []))
+            ≡ fifteen (in_use r ++ (record { b = r.k + 1; s = size_for (length ms); count = length ms } ∷ []))
         dir =
-            ap₂ (λ (l : List Place) (p : Place). fifteen (placesInUse l ++ (p ∷ []))) e.is-places
+            ap₂ (λ (l : List Place) (p : Place). fifteen (places_in_use l ++ (p ∷ []))) e.is-places
             (place_is (k + 1) (r.k + 1) s (size_for (length ms)) n (length ms) (ap (λ (x : ℕ). x + 1) e.is-k) size_is e.is-n)

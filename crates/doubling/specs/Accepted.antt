@@ -3,15 +3,15 @@ use Rattle.std.specs.Prelude.{◌≡◌, List, ℕ, ◌+◌, length}
 use Rattle.lists.specs.Runs.{total}
 use Rattle.layout.specs.Machine.{layout}
 use Rattle.directory.specs.declared.Place.{Place}
-use Rattle.rules.specs.Record.{Filter, width, width_at, annexUsed}
-use Rattle.rules.specs.Slow.{hashes, doubleNumber, doubledRuns, moreAnnex, moreDir}
+use Rattle.rules.specs.Record.{Filter, width, width_at, annex_used}
+use Rattle.rules.specs.Slow.{hashes, double_number, doubled_runs, more_annex, more_dir}
 
 -- the numbers of a record: k, width now and after, annex words in use, new mother hashes, directory
 pub record Numbers (r : Filter) (main queue annex : List ℕ) (k w v taken n : ℕ) (places : List Place) : Type 0 where
   pub is-k : k ≡ r.k
   pub is-w : w ≡ width r
   pub is-v : v ≡ width_at r (r.k + 1)
-  pub is-taken : taken ≡ annexUsed r
+  pub is-taken : taken ≡ annex_used r
   pub is-n : n ≡ length (hashes r main queue annex)
   pub is-places : places ≡ r.dir
 
@@ -20,11 +20,11 @@ pub record Accepted (main second annex : List ℕ) (k w v taken n : ℕ) (places
   pub r : Filter
   pub queue : List ℕ
   pub numbers : Numbers r main queue annex k w v taken n places
-  pub number : doubleNumber r main queue annex (length second) ≡ 0
+  pub number : double_number r main queue annex (length second) ≡ 0
 
 -- the second main, annex, used count and directory after the call
-pub record Done (r : Filter) (main queue annex : List ℕ) (second annexAfter : List ℕ) (used : ℕ) (places : List Place) : Type 0 where
-  pub second_is : second ≡ layout (doubledRuns r main queue annex)
-  pub annex-is : annexAfter ≡ moreAnnex r main queue annex (hashes r main queue annex)
-  pub used-is : used ≡ total (doubledRuns r main queue annex)
-  pub places_is : places ≡ moreDir r main queue annex (hashes r main queue annex)
+pub record Done (r : Filter) (main queue annex : List ℕ) (second annex_after : List ℕ) (used : ℕ) (places : List Place) : Type 0 where
+  pub second_is : second ≡ layout (doubled_runs r main queue annex)
+  pub annex-is : annex_after ≡ more_annex r main queue annex (hashes r main queue annex)
+  pub used-is : used ≡ total (doubled_runs r main queue annex)
+  pub places_is : places ≡ more_dir r main queue annex (hashes r main queue annex)

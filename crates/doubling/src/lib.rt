@@ -4,16 +4,16 @@ ghost use Rattle.lists.specs.Runs.{total};
 ghost use Rattle.layout.specs.Machine.{layout};
 ghost use Rattle.layout.specs.Decode.{decode, run_at};
 ghost use Rattle.rules.specs.Record.{Filter};
-ghost use Rattle.rules.specs.Tables.{hashEntry};
-ghost use Rattle.rules.specs.Doubling.{newHashes, size_for, table_of};
-ghost use Rattle.arriving.specs.Arrivals.{Arrived, Narrow, Size, ofRun};
-ghost use Rattle.doubling.specs.NewHashes.{newHash, stored};
+ghost use Rattle.rules.specs.Tables.{hash_entry};
+ghost use Rattle.rules.specs.Doubling.{new_hashes, size_for, table_of};
+ghost use Rattle.arriving.specs.Arrivals.{Arrived, Narrow, Size, of_run};
+ghost use Rattle.doubling.specs.NewHashes.{new_hash, stored};
 ghost use Rattle.doubling.specs.Accepted.{Numbers, Accepted, Done};
 
 // How many entries of the run of c become void.
 fn count_in(main: &[u32], c: usize, w: u32) -> u32
     requires { (c < length main.now) × Size main.now × (w ≤ 26) × Narrow w main.now }
-    ensures { (k : ℕ) → result ≡ length (ofRun (newHash w k c) (run_at main.now c)) }
+    ensures { (k : ℕ) → result ≡ length (of_run (new_hash w k c) (run_at main.now c)) }
 {
     let n = main.len();
     let r = walks::locate(main, c);
@@ -39,7 +39,7 @@ fn count_in(main: &[u32], c: usize, w: u32) -> u32
 // How many entries become void.
 pub fn count_new(main: &[u32], w: u32) -> u32
     requires { Size main.now × (w ≤ 26) × Narrow w main.now × (total (decode main.now) ≤ 1048576) }
-    ensures { (k : ℕ) → result ≡ length (newHashes w k 0 (decode main.now)) }
+    ensures { (k : ℕ) → result ≡ length (new_hashes w k 0 (decode main.now)) }
 {
     let n = main.len();
     let mut m: u32 = 0;
@@ -102,7 +102,7 @@ fn hash_slot(m: u32, s: u32) -> usize
 
 fn hash_payload(m: u32, b: u32, s: u32) -> u32
     requires { (m < 2 ^ b) × (3 ≤ s) × (s ≤ b) × (b ≤ 20) }
-    ensures { (result ≡ hashEntry b s m) × (result < 536870912) }
+    ensures { (result ≡ hash_entry b s m) × (result < 536870912) }
 {
     let f = m / slots::pow2(s);
     slots::encode(18, b - s, f)
@@ -124,7 +124,7 @@ fn store(part: &mut [u32], k: u32, c: usize, p: u32, w: u32, s: u32)
 
 fn store_run(main: &[u32], part: &mut [u32], k: u32, c: usize, w: u32, s: u32)
     requires { (c < 2 ^ k) × (length main.now ≡ 2 ^ k) × (k ≤ 19) × (3 ≤ s) × (s ≤ k) × (length part.old ≡ 2 ^ s) × Size main.now × Size part.old × Narrow w main.now × (w ≤ 26) }
-    ensures { Arrived part.old part.new (ofRun (stored w k s c) (run_at main.now c)) }
+    ensures { Arrived part.old part.new (of_run (stored w k s c) (run_at main.now c)) }
 {
     let n = main.len();
     let r = walks::locate(main, c);
@@ -145,8 +145,8 @@ fn store_run(main: &[u32], part: &mut [u32], k: u32, c: usize, w: u32, s: u32)
 // The annex table of the new mother hashes.
 pub fn write_table(main: &[u32], part: &mut [u32], k: u32, w: u32, s: u32)
     requires { (length main.now ≡ 2 ^ k) × (k ≤ 19) × (3 ≤ s) × (s ≤ k) × (length part.old ≡ 2 ^ s) × Size main.now × Size part.old × Narrow w main.now × (w ≤ 26)
-        × (length (newHashes w k 0 (decode main.now)) < 2 ^ s) }
-    ensures { part.new ≡ layout (table_of (k + 1) s (newHashes w k 0 (decode main.now))) }
+        × (length (new_hashes w k 0 (decode main.now)) < 2 ^ s) }
+    ensures { part.new ≡ layout (table_of (k + 1) s (new_hashes w k 0 (decode main.now))) }
 {
     let n = main.len();
     table::clear(part);

@@ -7,25 +7,25 @@ use lib.Dec.{T}
 use lib.ListN.{length}
 use Rattle.lists.proofs.Tests.{test-true}
 use Rattle.slots.specs.Numbers.{limit}
-use Rattle.directory.specs.Places.{directoryRight}
-use Rattle.rules.specs.Record.{Filter, width, annexUsed}
-use Rattle.rules.specs.Refusals.{refusal, recordRight, slicesRight}
+use Rattle.directory.specs.Places.{directory_right}
+use Rattle.rules.specs.Record.{Filter, width, annex_used}
+use Rattle.rules.specs.Refusals.{refusal, record_right, slices_right}
 use Rattle.rules.specs.Sound.{sound}
 use Rattle.rules.specs.Calls.{asked}
 use Rattle.rules.specs.Slow.{audit}
 use Rattle.keeps.proofs.State.{long}
-use Rattle.filter.specs.Contracts.{firstNumber}
+use Rattle.filter.specs.Promises.{first_number}
 use Rattle.filter.proofs.Records.{directory-of}
 use Rattle.filter.proofs.Outcomes.{first-right, first-asked}
 use Rattle.filter.proofs.Quicks.{bounds_of}
 
 module _ (r : Filter) (main queue annex : List ℕ) where
-  pub audit-refused : (n : ℕ) → n ≡ firstNumber r (length main) (length queue) (length annex) → (n ≡ 0 → ⊥) → n ≡ audit r main queue annex
+  pub audit-refused : (n : ℕ) → n ≡ first_number r (length main) (length queue) (length annex) → (n ≡ 0 → ⊥) → n ≡ audit r main queue annex
   unfolding audit
   audit-refused zero e ne = absurd (ne refl)
   audit-refused (suc n) e ne = sym (first-asked r main queue annex n _ (sym e))
 
-  module _ (z : 0 ≡ firstNumber r (length main) (length queue) (length annex)) where
+  module _ (z : 0 ≡ first_number r (length main) (length queue) (length annex)) where
     -- what the test of soundness asks for
     pub record Asks (w : ℕ) : Type 0 where
       pub k_3 : 3 ≤ r.k
@@ -34,8 +34,8 @@ module _ (r : Filter) (main queue annex : List ℕ) where
       pub w-26 : w ≤ 26
       pub main-long : length main ≡ 2 ^ r.k
       pub used-fits : r.used ≤ limit r.k
-      pub places : T (directoryRight r.k r.dir)
-      pub annex-long : annexUsed r ≤ length annex
+      pub places : T (directory_right r.k r.dir)
+      pub annex-long : annex_used r ≤ length annex
       pub queue_long : r.queued ≤ length queue
       pub queue-fits : r.queued ≤ 2 ^ 20
 
@@ -61,10 +61,10 @@ module _ (r : Filter) (main queue annex : List ℕ) where
     unfolding audit asked refusal
     audit-0 s =
         let x = first-right r (length main) (length queue) (length annex) (sym z) in
-        rw (test-true (recordRight r) x.0, test-true (slicesRight r (length main) (length queue) (length annex)) x.1, s, refusal)
+        rw (test-true (record_right r) x.0, test-true (slices_right r (length main) (length queue) (length annex)) x.1, s, refusal)
 
     pub audit-4 : sound r main queue annex ≡ false → 4 ≡ audit r main queue annex
     unfolding audit asked refusal
     audit-4 s =
         let x = first-right r (length main) (length queue) (length annex) (sym z) in
-        rw (test-true (recordRight r) x.0, test-true (slicesRight r (length main) (length queue) (length annex)) x.1, s, refusal)
+        rw (test-true (record_right r) x.0, test-true (slices_right r (length main) (length queue) (length annex)) x.1, s, refusal)

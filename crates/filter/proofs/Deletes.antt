@@ -15,39 +15,39 @@ use Rattle.layout.specs.Decode.{decode}
 use Rattle.rules.specs.Record.{Filter, change, width}
 use Rattle.rules.specs.Sound.{sound}
 use Rattle.rules.specs.Calls.{give}
-use Rattle.rules.specs.Quick.{home, matched, best, queryNumber, takeNumber, deleted, delete}
-use Rattle.filter.specs.Contracts.{firstNumber, Leaves, Quick, Chosen}
+use Rattle.rules.specs.Quick.{home, matched, best, query_number, take_number, deleted, delete}
+use Rattle.filter.specs.Promises.{first_number, Leaves, Quick, Chosen}
 use Rattle.filter.proofs.Outcomes.{given, refusal-quick, unsound-quick, done-quick}
 use Rattle.filter.proofs.Quicks.{first-query, bounds_of}
 use Rattle.filter.proofs.Takes.{Sure, sure, take-first, take-6, take-bits, take-void, take-full, take-lent}
 
 module _ (r : Filter) (main queue annex : List ℕ) (h : ℕ) where
   abbrev pub DeleteQuick : ℕ → Filter → List ℕ → List ℕ → Type 0
-  DeleteQuick n rec main' queue' = Quick (delete r main queue annex h) (queryNumber r main queue annex) (sound r main queue annex) r main queue annex n rec main' queue' annex
+  DeleteQuick n rec main' queue' = Quick (delete r main queue annex h) (query_number r main queue annex) (sound r main queue annex) r main queue annex n rec main' queue' annex
 
-  refuse : (n : ℕ) → takeNumber r main queue annex h ≡ suc n → DeleteQuick (suc n) r main queue
+  refuse : (n : ℕ) → take_number r main queue annex h ≡ suc n → DeleteQuick (suc n) r main queue
   unfolding delete
   refuse n e = refusal-quick r main queue annex _ _ _ (suc n) (given r main queue annex _ n (deleted r main queue annex h) e)
 
-  pub delete-refused : (n : ℕ) → n ≡ firstNumber r (length main) (length queue) (length annex) → (n ≡ 0 → ⊥) → DeleteQuick n r main queue
+  pub delete-refused : (n : ℕ) → n ≡ first_number r (length main) (length queue) (length annex) → (n ≡ 0 → ⊥) → DeleteQuick n r main queue
   delete-refused zero e ne = absurd (ne refl)
   delete-refused (suc n) e ne = refuse n (take-first r main queue annex h n e)
 
-  pub delete-6 : 0 ≡ firstNumber r (length main) (length queue) (length annex) → (b : Bool) → b ≡ matched r main h → b ≡ false → DeleteQuick 6 r main queue
+  pub delete-6 : 0 ≡ first_number r (length main) (length queue) (length annex) → (b : Bool) → b ≡ matched r main h → b ≡ false → DeleteQuick 6 r main queue
   delete-6 z b e f = refuse 5 (take-6 r main queue annex h z (sym e ∙ f))
 
   module _ (c p : ℕ) (ch : Chosen r main queue annex h c p) where
-    zero-first : queryNumber r main queue annex ≡ 0
+    zero-first : query_number r main queue annex ≡ 0
     zero-first = sym (first-query r main queue annex) ∙ sym ch.lent
 
     unsound : (n : ℕ) → (Sure r main c p → ⊥) → DeleteQuick n r main queue
     unsound n f = unsound-quick r main queue annex _ _ _ n zero-first (λ s. f (sure r main queue annex h c p ch s))
 
-    done : (u n : ℕ) (main' queue' : List ℕ) → takeNumber r main queue annex h ≡ 0 → (Sure r main c p → Leaves (deleted r main queue annex h) 0 (change r r.k u n r.dir) main' queue' annex)
+    done : (u n : ℕ) (main' queue' : List ℕ) → take_number r main queue annex h ≡ 0 → (Sure r main c p → Leaves (deleted r main queue annex h) 0 (change r r.k u n r.dir) main' queue' annex)
         → DeleteQuick 0 (change r r.k u n r.dir) main' queue'
     unfolding delete give
     done u n main' queue' z l =
-        done-quick r main queue annex (delete r main queue annex h) (queryNumber r main queue annex) (sound r main queue annex) u n main' queue' zero-first
+        done-quick r main queue annex (delete r main queue annex h) (query_number r main queue annex) (sound r main queue annex) u n main' queue' zero-first
         (λ s. rw (z, give) (l (sure r main queue annex h c p ch s)))
 
     -- ---- an entry with bits

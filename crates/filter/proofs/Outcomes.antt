@@ -7,10 +7,10 @@ use native.Mathlib.Omega.{arith}
 use lib.Dec.{T}
 use lib.ListN.{length}
 use Rattle.rules.specs.Record.{Filter, change}
-use Rattle.rules.specs.Refusals.{Test, refusal, recordRight, slicesRight}
+use Rattle.rules.specs.Refusals.{Test, refusal, record_right, slices_right}
 use Rattle.rules.specs.Calls.{Outcome, give, refused, asked}
 use Rattle.keeps.proofs.Refusals.{refusal-zero}
-use Rattle.filter.specs.Contracts.{firstNumber, Leaves, Quick}
+use Rattle.filter.specs.Promises.{first_number, Leaves, Quick}
 
 -- an outcome leaves itself
 pub leaves : (o : Outcome) → Leaves o o.number o.rec o.main o.queue o.annex
@@ -24,16 +24,16 @@ first-refused true true n ts e = absurd (omega arith)
 first-refused true false n ts e = e
 first-refused false b n ts e = e
 
-pub first-right : (r : Filter) (m q a : ℕ) → firstNumber r m q a ≡ 0 → T (recordRight r) × T (slicesRight r m q a)
-unfolding firstNumber
+pub first-right : (r : Filter) (m q a : ℕ) → first_number r m q a ≡ 0 → T (record_right r) × T (slices_right r m q a)
+unfolding first_number
 first-right r m q a e =
-    let x = refusal-zero (recordRight r) 1 _ e in
-    (x.0, (refusal-zero (slicesRight r m q a) 2 [] x.1).0)
+    let x = refusal-zero (record_right r) 1 _ e in
+    (x.0, (refusal-zero (slices_right r m q a) 2 [] x.1).0)
 
 module _ (r : Filter) (main queue annex : List ℕ) where
-  pub first-asked : (n : ℕ) (ts : List Test) → firstNumber r (length main) (length queue) (length annex) ≡ suc n → refusal (asked r main queue annex ts) ≡ suc n
-  unfolding firstNumber asked
-  first-asked n ts e = first-refused (recordRight r) (slicesRight r (length main) (length queue) (length annex)) n ts e
+  pub first-asked : (n : ℕ) (ts : List Test) → first_number r (length main) (length queue) (length annex) ≡ suc n → refusal (asked r main queue annex ts) ≡ suc n
+  unfolding first_number asked
+  first-asked n ts e = first-refused (record_right r) (slices_right r (length main) (length queue) (length annex)) n ts e
 
   pub given : (n m : ℕ) (done : Outcome) → n ≡ suc m → give n done (refused r main queue annex n) ≡ refused r main queue annex (suc m)
   unfolding give

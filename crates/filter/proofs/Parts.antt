@@ -5,20 +5,20 @@ use mathlib.Core.List.{List, []}
 use Prim.Native.Nat.{ℕ, ◌≤◌, ◌<◌}
 use lib.ListN.{length}
 use borrow.Author.Tests.{le-leb, lt-leb}
-use Rattle.directory.specs.Places.{partIn}
-use Rattle.rules.specs.Record.{Filter, inUse, annexUsed}
-use Rattle.rules.specs.Refusals.{recordRight}
+use Rattle.directory.specs.Places.{part_in}
+use Rattle.rules.specs.Record.{Filter, in_use, annex_used}
+use Rattle.rules.specs.Refusals.{record_right}
 use Rattle.rules.specs.Lookups.{part}
 
 module _ (r : Filter) (annex : List ℕ) (b : ℕ) where
-  pub part-there : recordRight r ≡ true → annexUsed r ≤ length annex → partIn b (inUse r) annex ≡ part r annex b
+  pub part-there : record_right r ≡ true → annex_used r ≤ length annex → part_in b (in_use r) annex ≡ part r annex b
   unfolding part
-  part-there e l = rw (e, le-leb (annexUsed r) (length annex) l, part)
+  part-there e l = rw (e, le-leb (annex_used r) (length annex) l, part)
 
-  pub part-short : recordRight r ≡ true → length annex < annexUsed r → [] ≡ part r annex b
+  pub part-short : record_right r ≡ true → length annex < annex_used r → [] ≡ part r annex b
   unfolding part
-  part-short e l = rw (e, lt-leb (annexUsed r) (length annex) l, part)
+  part-short e l = rw (e, lt-leb (annex_used r) (length annex) l, part)
 
-  pub part_none : recordRight r ≡ false → [] ≡ part r annex b
+  pub part_none : record_right r ≡ false → [] ≡ part r annex b
   unfolding part
   part_none e = rw (e, part)

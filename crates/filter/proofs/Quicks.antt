@@ -11,18 +11,18 @@ use borrow.Author.Tests.{eq-eqb, ne_eqb, ltb-true}
 use Rattle.lists.specs.Lists.{bit}
 use Rattle.lists.specs.Runs.{Runs, add, total}
 use Rattle.slots.specs.Numbers.{limit}
-use Rattle.slots.specs.Payload.{tombstone, canonicalSlot, matches, freshPayload}
+use Rattle.slots.specs.Payload.{tombstone, canonical_slot, matches, fresh_payload}
 use Rattle.layout.specs.Machine.{layout}
 use Rattle.layout.specs.Decode.{decode, run_at}
 use Rattle.lookup.specs.Spots.{First}
 use Rattle.rules.specs.Record.{Filter, change, fresh, width}
-use Rattle.rules.specs.Refusals.{refusal, recordRight, slicesRight}
+use Rattle.rules.specs.Refusals.{refusal, record_right, slices_right}
 use Rattle.rules.specs.Sound.{sound}
 use Rattle.rules.specs.Calls.{give, asked}
-use Rattle.rules.specs.Quick.{home, freshEntry, matchesIn, matched, best, queryNumber, query, insertNumber, inserted, insert}
+use Rattle.rules.specs.Quick.{home, fresh_entry, matches_in, matched, best, query_number, query, insert_number, inserted, insert}
 use Rattle.keeps.proofs.State.{Fine, fine}
 use Rattle.keeps.proofs.Bounds.{Bounds, bounds}
-use Rattle.filter.specs.Contracts.{firstNumber, Leaves, Quick}
+use Rattle.filter.specs.Promises.{first_number, Leaves, Quick}
 use Rattle.filter.proofs.Firsts.{any-hit, first-hit}
 use Rattle.filter.proofs.Outcomes.{first-right, first-asked, given, refusal-quick, done-quick}
 
@@ -34,20 +34,20 @@ less a b h ne = go (ℕ_discrete a b)
     go (no n) = omega arith
 
 module _ (r : Filter) (main queue annex : List ℕ) where
-  pub first-query : firstNumber r (length main) (length queue) (length annex) ≡ queryNumber r main queue annex
-  unfolding firstNumber queryNumber asked
+  pub first-query : first_number r (length main) (length queue) (length annex) ≡ query_number r main queue annex
+  unfolding first_number query_number asked
   first-query = refl
 
   -- what 2 and 3 leave, and soundness, as facts
-  pub fine-state : 0 ≡ firstNumber r (length main) (length queue) (length annex) → T (sound r main queue annex) → Fine r main queue annex (decode main)
+  pub fine-state : 0 ≡ first_number r (length main) (length queue) (length annex) → T (sound r main queue annex) → Fine r main queue annex (decode main)
   fine-state z s =
       let x = first-right r (length main) (length queue) (length annex) (sym z) in
       fine r main queue annex (record { record-right = x.0; slices-right = x.1; is-sound = s })
 
-  pub bounds_of : 0 ≡ firstNumber r (length main) (length queue) (length annex) → Bounds r
+  pub bounds_of : 0 ≡ first_number r (length main) (length queue) (length annex) → Bounds r
   bounds_of z = bounds r (first-right r (length main) (length queue) (length annex) (sym z)).0
 
-  pub main-length : 0 ≡ firstNumber r (length main) (length queue) (length annex) → length main ≡ 2 ^ r.k
+  pub main-length : 0 ≡ first_number r (length main) (length queue) (length annex) → length main ≡ 2 ^ r.k
   main-length z = (Rattle.keeps.proofs.State.long r main queue annex (first-right r (length main) (length queue) (length annex) (sym z)).1).main-long
 
   -- numbers that the walk asks for
@@ -58,7 +58,7 @@ module _ (r : Filter) (main queue annex : List ℕ) where
     pub wide : w ≤ 26
     pub tall : k ≤ 20
 
-  pub walk : 0 ≡ firstNumber r (length main) (length queue) (length annex) → (c w : ℕ) → c < 2 ^ r.k → w ≡ width r → Walk c w r.k
+  pub walk : 0 ≡ first_number r (length main) (length queue) (length annex) → (c w : ℕ) → c < 2 ^ r.k → w ≡ width r → Walk c w r.k
   walk z c w hc ew =
       let b = bounds_of z in
       let l = main-length z in
@@ -72,16 +72,16 @@ module _ (r : Filter) (main queue annex : List ℕ) where
       }
 
   -- what the walk found
-  module _ (h c w : ℕ) (ec : c ≡ canonicalSlot r.k h) (ew : w ≡ width r) (found : Bool) (p : ℕ) (m : First (matches w r.k h) (run_at main c) found p) where
+  module _ (h c w : ℕ) (ec : c ≡ canonical_slot r.k h) (ew : w ≡ width r) (found : Bool) (p : ℕ) (m : First (matches w r.k h) (run_at main c) found p) where
     f-run : First (matches (width r) r.k h) (run_at main (home r h)) found p
     f-run = subst (λ (x : ℕ). First (matches x r.k h) (run_at main (home r h)) found p) ew (subst (λ (x : ℕ). First (matches w r.k h) (run_at main x) found p) ec m)
 
     pub found-matched : found ≡ matched r main h
-    unfolding matchesIn
+    unfolding matches_in
     found-matched = f-run.any ∙ any-hit (matches (width r) r.k h) (run_at main (home r h))
 
     pub found-best : found ≡ true → p ≡ best r main h
-    unfolding best matchesIn
+    unfolding best matches_in
     found-best e =
         f-run.which
         ∙ first-hit (matches (width r) r.k h) (run_at main (home r h)) (tombstone (width r)) (ltb-true _ _ (sym f-run.any ∙ e))
@@ -92,25 +92,25 @@ module _ (r : Filter) (main queue annex : List ℕ) where
   answer n zero e ne b = absurd (ne e)
   answer n (suc m) e ne b = e
 
-  pub query-refused : (h n : ℕ) → n ≡ firstNumber r (length main) (length queue) (length annex) → (n ≡ 0 → ⊥) → n ≡ query r main queue annex h
+  pub query-refused : (h n : ℕ) → n ≡ first_number r (length main) (length queue) (length annex) → (n ≡ 0 → ⊥) → n ≡ query r main queue annex h
   unfolding query
-  query-refused h n e ne = answer n (queryNumber r main queue annex) (e ∙ first-query) ne (bit (matched r main h))
+  query-refused h n e ne = answer n (query_number r main queue annex) (e ∙ first-query) ne (bit (matched r main h))
 
   asked-now : (m b : ℕ) → 0 ≡ m → b ≡ elim m [ zero ↦ b | suc k ↦ suc k ]
   asked-now zero b e = refl
   asked-now (suc m) b e = absurd (omega arith)
 
-  pub query-answered : (h : ℕ) → 0 ≡ firstNumber r (length main) (length queue) (length annex) → (a : Bool) → a ≡ matched r main h → bit a ≡ query r main queue annex h
+  pub query-answered : (h : ℕ) → 0 ≡ first_number r (length main) (length queue) (length annex) → (a : Bool) → a ≡ matched r main h → bit a ≡ query r main queue annex h
   unfolding query
-  query-answered h z a e = ap bit e ∙ asked-now (queryNumber r main queue annex) (bit (matched r main h)) (z ∙ first-query)
+  query-answered h z a e = ap bit e ∙ asked-now (query_number r main queue annex) (bit (matched r main h)) (z ∙ first-query)
 
   -- ---- INSERT
 
   abbrev pub InsertQuick : ℕ → ℕ → Filter → List ℕ → Type 0
-  InsertQuick h n rec main' = Quick (insert r main queue annex h) (insertNumber r main queue annex) (sound r main queue annex) r main queue annex n rec main' queue annex
+  InsertQuick h n rec main' = Quick (insert r main queue annex h) (insert_number r main queue annex) (sound r main queue annex) r main queue annex n rec main' queue annex
 
-  pub insert-refused : (h n : ℕ) → n ≡ firstNumber r (length main) (length queue) (length annex) → (n ≡ 0 → ⊥) → InsertQuick h n r main
-  unfolding insert insertNumber
+  pub insert-refused : (h n : ℕ) → n ≡ first_number r (length main) (length queue) (length annex) → (n ≡ 0 → ⊥) → InsertQuick h n r main
+  unfolding insert insert_number
   insert-refused h zero e ne = absurd (ne refl)
   insert-refused h (suc n) e ne =
       refusal-quick r main queue annex _ _ _ (suc n) (given r main queue annex _ n (inserted r main queue annex h) (first-asked r main queue annex n _ (sym e)))
@@ -121,13 +121,13 @@ module _ (r : Filter) (main queue annex : List ℕ) where
   full true false e f = absurd (Rattle.lists.proofs.Tests.no_true f)
   full false b e f = absurd (Rattle.lists.proofs.Tests.no_true e)
 
-  pub insert-full : (h l : ℕ) → 0 ≡ firstNumber r (length main) (length queue) (length annex) → l ≡ limit r.k → r.used ≡ l → InsertQuick h 5 r main
-  unfolding insert insertNumber asked
+  pub insert-full : (h l : ℕ) → 0 ≡ first_number r (length main) (length queue) (length annex) → l ≡ limit r.k → r.used ≡ l → InsertQuick h 5 r main
+  unfolding insert insert_number asked
   insert-full h l z el eu =
       let x = first-right r (length main) (length queue) (length annex) (sym z) in
       refusal-quick r main queue annex _ _ _ 5
       (given r main queue annex _ 4 (inserted r main queue annex h)
-      (ap (λ (b : Bool). refusal (record { right = recordRight r; number = 2 } ∷ record { right = slicesRight r (length main) (length queue) (length annex); number = 3 } ∷ record { right = mathlib.Core.Bool.not b; number = 5 } ∷ []))
+      (ap (λ (b : Bool). refusal (record { right = record_right r; number = 2 } ∷ record { right = slices_right r (length main) (length queue) (length annex); number = 3 } ∷ record { right = mathlib.Core.Bool.not b; number = 5 } ∷ []))
       (eq-eqb r.used (limit r.k) (eu ∙ el)) ∙ full _ _ (Rattle.lists.proofs.Tests.test-true _ x.0) (Rattle.lists.proofs.Tests.test-true _ x.1)))
 
   open-to : (a b c : Bool) → T a → T b → c ≡ false → refusal (record { right = a; number = 2 } ∷ record { right = b; number = 3 } ∷ record { right = mathlib.Core.Bool.not c; number = 5 } ∷ []) ≡ 0
@@ -137,14 +137,14 @@ module _ (r : Filter) (main queue annex : List ℕ) where
   open-to true false c s t e = absurd t
   open-to false b c s t e = absurd s
 
-  insert-open : (l : ℕ) → 0 ≡ firstNumber r (length main) (length queue) (length annex) → l ≡ limit r.k → (r.used ≡ l → ⊥) → insertNumber r main queue annex ≡ 0
-  unfolding insertNumber asked
+  insert-open : (l : ℕ) → 0 ≡ first_number r (length main) (length queue) (length annex) → l ≡ limit r.k → (r.used ≡ l → ⊥) → insert_number r main queue annex ≡ 0
+  unfolding insert_number asked
   insert-open l z el ne =
       let x = first-right r (length main) (length queue) (length annex) (sym z) in
       open-to _ _ (eqb r.used (limit r.k)) x.0 x.1 (ne_eqb _ _ (λ e. ne (e ∙ sym el)))
 
   -- what insert asks for, and that the used count fits
-  pub insert-fits : (l : ℕ) → 0 ≡ firstNumber r (length main) (length queue) (length annex) → l ≡ limit r.k → (r.used ≡ l → ⊥) → (r.used < 2 ^ r.k) × (r.used < 1048576)
+  pub insert-fits : (l : ℕ) → 0 ≡ first_number r (length main) (length queue) (length annex) → l ≡ limit r.k → (r.used ≡ l → ⊥) → (r.used < 2 ^ r.k) × (r.used < 1048576)
   insert-fits l z el ne =
       let b = bounds_of z in
       (omega (arith, b.used-limit, b.limit-slots), omega (arith, b.used-limit, b.limit-slots, b.slots))
@@ -153,7 +153,7 @@ module _ (r : Filter) (main queue annex : List ℕ) where
   pub small : (w p : ℕ) → w ≤ 26 → p < 2 ^ w → p < 536870912
   small w p h l = omega (arith, lib.Pow.pow_mono {i = w} {j = 26} h)
 
-  insert-left : (c p : ℕ) (h : ℕ) (main' : List ℕ) → Fine r main queue annex (decode main) → r.used < limit r.k → limit r.k < 2 ^ r.k → c ≡ home r h → p ≡ freshEntry r h
+  insert-left : (c p : ℕ) (h : ℕ) (main' : List ℕ) → Fine r main queue annex (decode main) → r.used < limit r.k → limit r.k < 2 ^ r.k → c ≡ home r h → p ≡ fresh_entry r h
       → ((runs : Runs) → main ≡ layout runs → suc (total runs) < length runs → main' ≡ layout (set runs c (add p (get_or runs c []))))
       → Leaves (inserted r main queue annex h) 0 (change r r.k (r.used + 1) r.queued r.dir) main' queue annex
   unfolding inserted
@@ -166,14 +166,14 @@ module _ (r : Filter) (main queue annex : List ℕ) where
         annex-is = refl;
       }
 
-  pub insert-done : (h l c p w fl : ℕ) (main' : List ℕ) → 0 ≡ firstNumber r (length main) (length queue) (length annex) → l ≡ limit r.k → (r.used ≡ l → ⊥)
-      → c ≡ canonicalSlot r.k h → w ≡ width r → fl ≡ fresh r → p ≡ freshPayload w fl r.k h
+  pub insert-done : (h l c p w fl : ℕ) (main' : List ℕ) → 0 ≡ first_number r (length main) (length queue) (length annex) → l ≡ limit r.k → (r.used ≡ l → ⊥)
+      → c ≡ canonical_slot r.k h → w ≡ width r → fl ≡ fresh r → p ≡ fresh_payload w fl r.k h
       → ((runs : Runs) → main ≡ layout runs → suc (total runs) < length runs → main' ≡ layout (set runs c (add p (get_or runs c []))))
       → InsertQuick h 0 (change r r.k (r.used + 1) r.queued r.dir) main'
   unfolding insert give
   insert-done h l c p w fl main' z el ne ec ew ef ep t =
       let b = bounds_of z in
-      done-quick r main queue annex (insert r main queue annex h) (insertNumber r main queue annex) (sound r main queue annex) (r.used + 1) r.queued main' queue (insert-open l z el ne)
+      done-quick r main queue annex (insert r main queue annex h) (insert_number r main queue annex) (sound r main queue annex) (r.used + 1) r.queued main' queue (insert-open l z el ne)
       (λ s. rw (insert-open l z el ne, give)
       (insert-left c p h main' (fine-state z s) (less r.used (limit r.k) b.used-limit (λ e. ne (e ∙ sym el))) b.limit-slots ec
-      (ep ∙ ap₂ (λ (a b : ℕ). freshPayload a b r.k h) ew ef) t))
+      (ep ∙ ap₂ (λ (a b : ℕ). fresh_payload a b r.k h) ew ef) t))

@@ -12,15 +12,15 @@ use borrow.Author.Tests.{eq-eqb, ne_eqb, lt-ltb, le-ltb, ltb-true}
 use Rattle.lists.specs.Lists.{bit}
 use Rattle.lists.specs.Runs.{Runs, rising, add, erase, has, hits, total}
 use Rattle.lists.proofs.Tests.{no_true}
-use Rattle.slots.specs.Payload.{void, tombstone, rest_of, length_of, matches, freshPayload}
+use Rattle.slots.specs.Payload.{void, tombstone, rest_of, length_of, matches, fresh_payload}
 use Rattle.slots.proofs.PayloadLaws.{Match, match-true, rest-large, tombstone-rest, fresh-lt}
 use Rattle.layout.specs.Machine.{layout}
 use Rattle.layout.specs.Decode.{decode, run_at}
 use Rattle.rules.specs.Record.{Filter, change, fresh, width}
 use Rattle.rules.specs.Sound.{sound}
 use Rattle.rules.specs.Calls.{give, refused}
-use Rattle.rules.specs.Quick.{home, freshEntry, matchesIn, matched, best, bestIsVoid, queryNumber, takeNumber, rejuvenated, rejuvenate}
-use Rattle.filter.specs.Contracts.{firstNumber, Leaves, Quick, Chosen, Renewing}
+use Rattle.rules.specs.Quick.{home, fresh_entry, matches_in, matched, best, best_is_void, query_number, take_number, rejuvenated, rejuvenate}
+use Rattle.filter.specs.Promises.{first_number, Leaves, Quick, Chosen, Renewing}
 use Rattle.filter.proofs.Outcomes.{given, refusal-quick, unsound-quick, done-quick}
 use Rattle.filter.proofs.Quicks.{first-query, bounds_of, small}
 use Rattle.filter.proofs.Takes.{Sure, sure, take-first, take-6, take-bits, take-void, take-full, take-lent}
@@ -38,26 +38,26 @@ hit f (y ∷ ys) d l = go (f y) refl (hit f ys d) l
 
 module _ (r : Filter) (main queue annex : List ℕ) (h : ℕ) where
   abbrev pub RenewQuick : ℕ → Filter → List ℕ → List ℕ → Type 0
-  RenewQuick n rec main' queue' = Quick (rejuvenate r main queue annex h) (queryNumber r main queue annex) (sound r main queue annex) r main queue annex n rec main' queue' annex
+  RenewQuick n rec main' queue' = Quick (rejuvenate r main queue annex h) (query_number r main queue annex) (sound r main queue annex) r main queue annex n rec main' queue' annex
 
-  refuse : (n : ℕ) → takeNumber r main queue annex h ≡ suc n → RenewQuick (suc n) r main queue
+  refuse : (n : ℕ) → take_number r main queue annex h ≡ suc n → RenewQuick (suc n) r main queue
   unfolding rejuvenate
   refuse n e = refusal-quick r main queue annex _ _ _ (suc n) (given r main queue annex _ n (rejuvenated r main queue annex h) e)
 
-  pub renew-refused : (n : ℕ) → n ≡ firstNumber r (length main) (length queue) (length annex) → (n ≡ 0 → ⊥) → RenewQuick n r main queue
+  pub renew-refused : (n : ℕ) → n ≡ first_number r (length main) (length queue) (length annex) → (n ≡ 0 → ⊥) → RenewQuick n r main queue
   renew-refused zero e ne = absurd (ne refl)
   renew-refused (suc n) e ne = refuse n (take-first r main queue annex h n e)
 
-  pub renew-6 : 0 ≡ firstNumber r (length main) (length queue) (length annex) → (b : Bool) → b ≡ matched r main h → b ≡ false → RenewQuick 6 r main queue
+  pub renew-6 : 0 ≡ first_number r (length main) (length queue) (length annex) → (b : Bool) → b ≡ matched r main h → b ≡ false → RenewQuick 6 r main queue
   renew-6 z b e f = refuse 5 (take-6 r main queue annex h z (sym e ∙ f))
 
   module _ (c p : ℕ) (ch : Chosen r main queue annex h c p) where
-    zero-first : queryNumber r main queue annex ≡ 0
+    zero-first : query_number r main queue annex ≡ 0
     zero-first = sym (first-query r main queue annex) ∙ sym ch.lent
 
     -- what matches has a length
     match : Match (width r) r.k h p
-    unfolding best matchesIn
+    unfolding best matches_in
     match = subst (Match (width r) r.k h) (sym ch.entry) (match-true (width r) r.k h (best r main h) (hit (matches (width r) r.k h) (run_at main (home r h)) (tombstone (width r)) (ltb-true _ _ ch.some)))
 
     pub below : p < tombstone (width r)
@@ -88,22 +88,22 @@ module _ (r : Filter) (main queue annex : List ℕ) (h : ℕ) where
 
     -- ---- shorter
 
-    pub renewing : (w l m q : ℕ) → w ≡ width r → l ≡ fresh r → m ≡ length_of w p → m < l → q ≡ freshPayload w l r.k h → Renewing r h p q
+    pub renewing : (w l m q : ℕ) → w ≡ width r → l ≡ fresh r → m ≡ length_of w p → m < l → q ≡ fresh_payload w l r.k h → Renewing r h p q
     renewing w l m q ew el em h' eq =
         record {
           shorter = omega (arith, em, ap (λ (x : ℕ). length_of x p) ew);
-          becomes = eq ∙ ap₂ (λ (a b : ℕ). freshPayload a b r.k h) ew el;
+          becomes = eq ∙ ap₂ (λ (a b : ℕ). fresh_payload a b r.k h) ew el;
         }
 
     module _ (q : ℕ) (re : Renewing r h p q) where
       unsound : (n : ℕ) → (Sure r main c p → ⊥) → RenewQuick n r main queue
       unsound n f = unsound-quick r main queue annex _ _ _ n zero-first (λ s. f (sure r main queue annex h c p ch s))
 
-      done : (u n : ℕ) (main' queue' : List ℕ) → takeNumber r main queue annex h ≡ 0 → (Sure r main c p → Leaves (rejuvenated r main queue annex h) 0 (change r r.k u n r.dir) main' queue' annex)
+      done : (u n : ℕ) (main' queue' : List ℕ) → take_number r main queue annex h ≡ 0 → (Sure r main c p → Leaves (rejuvenated r main queue annex h) 0 (change r r.k u n r.dir) main' queue' annex)
           → RenewQuick 0 (change r r.k u n r.dir) main' queue'
       unfolding rejuvenate give
       done u n main' queue' z l =
-          done-quick r main queue annex (rejuvenate r main queue annex h) (queryNumber r main queue annex) (sound r main queue annex) u n main' queue' zero-first
+          done-quick r main queue annex (rejuvenate r main queue annex h) (query_number r main queue annex) (sound r main queue annex) u n main' queue' zero-first
           (λ s. rw (z, give) (l (sure r main queue annex h c p ch s)))
 
       abbrev Exchanges : Bool → List ℕ → Type 0
@@ -119,13 +119,13 @@ module _ (r : Filter) (main queue annex : List ℕ) (h : ℕ) where
       shorter = lt-ltb _ _ (subst (λ (x : ℕ). length_of (width r) x < fresh r) ch.entry re.shorter)
 
       changed : (main' : List ℕ) → main' ≡ layout (set (decode main) c (add q (erase p (get_or (decode main) c []))))
-          → main' ≡ layout (set (decode main) (home r h) (add (freshEntry r h) (erase (best r main h) (get_or (decode main) (home r h) []))))
+          → main' ≡ layout (set (decode main) (home r h) (add (fresh_entry r h) (erase (best r main h) (get_or (decode main) (home r h) []))))
       changed main' e =
           e ∙ ap₂ (λ (a b : ℕ). layout (set (decode main) c (add a (erase b (get_or (decode main) c []))))) re.becomes ch.entry
-          ∙ ap (λ (a : ℕ). layout (set (decode main) a (add (freshEntry r h) (erase (best r main h) (get_or (decode main) a []))))) ch.slot
+          ∙ ap (λ (a : ℕ). layout (set (decode main) a (add (fresh_entry r h) (erase (best r main h) (get_or (decode main) a []))))) ch.slot
 
-      left : (v : Bool) → bestIsVoid r main h ≡ v → (main' queue' : List ℕ)
-          → main' ≡ layout (set (decode main) (home r h) (add (freshEntry r h) (erase (best r main h) (get_or (decode main) (home r h) []))))
+      left : (v : Bool) → best_is_void r main h ≡ v → (main' queue' : List ℕ)
+          → main' ≡ layout (set (decode main) (home r h) (add (fresh_entry r h) (erase (best r main h) (get_or (decode main) (home r h) []))))
           → queue' ≡ elim v [ true ↦ set queue r.queued (home r h * 2 + 1) | false ↦ queue ]
           → Leaves (rejuvenated r main queue annex h) 0 (change r r.k r.used (r.queued + bit v) r.dir) main' queue' annex
       unfolding rejuvenated
@@ -159,4 +159,4 @@ module _ (r : Filter) (main queue annex : List ℕ) (h : ℕ) where
       pub fresh-small : q < 536870912
       fresh-small =
           let b = bounds_of r main queue annex ch.lent in
-          subst (λ (x : ℕ). x < 536870912) (sym re.becomes) (small r main queue annex (width r) (freshEntry r h) b.width-26 (fresh-lt (width r) (fresh r) r.k h b.fresh-width))
+          subst (λ (x : ℕ). x < 536870912) (sym re.becomes) (small r main queue annex (width r) (fresh_entry r h) b.width-26 (fresh-lt (width r) (fresh r) r.k h b.fresh-width))

@@ -5,7 +5,7 @@ use Prim.Native.Nat.{ℕ, zero, suc}
 use native.Mathlib.Omega.{arith}
 use Rattle.rules.specs.Record.{Filter}
 use Rattle.rules.specs.Calls.{Outcome, give, refused, start}
-use Rattle.filter.specs.Contracts.{Leaves}
+use Rattle.filter.specs.Promises.{Leaves}
 use Rattle.filter.specs.Restart.{restart}
 
 module _ (main queue annex : List ℕ) (n : ℕ) (rec : Filter) (main' queue' annex' : List ℕ) where

@@ -5,10 +5,10 @@ use Prim.Native.Nat.{ℕ, zero, suc}
 use Rattle.directory.specs.declared.Place.{Place}
 use Rattle.rules.specs.Record.{Filter, change, width}
 use Rattle.rules.specs.Calls.{give, refused}
-use Rattle.rules.specs.Slow.{audit, heldAfter, settled, settle}
+use Rattle.rules.specs.Slow.{audit, held_after, settled, settle}
 use Rattle.keeps.proofs.Audits.{audit-good}
 use Rattle.settling.specs.Ready as settling
-use Rattle.filter.specs.Contracts.{Leaves}
+use Rattle.filter.specs.Promises.{Leaves}
 use Rattle.filter.proofs.Outcomes.{leaves, given}
 
 module _ (r : Filter) (main queue annex : List ℕ) where
@@ -16,7 +16,7 @@ module _ (r : Filter) (main queue annex : List ℕ) where
   unfolding settle refused
   settle-refused zero e ne = absurd (ne refl)
   settle-refused (suc n) e ne =
-      rw (given r main queue annex (audit r main queue annex) n (settled r main queue annex (heldAfter r main queue annex)) (sym e)) (leaves (refused r main queue annex (suc n)))
+      rw (given r main queue annex (audit r main queue annex) n (settled r main queue annex (held_after r main queue annex)) (sym e)) (leaves (refused r main queue annex (suc n)))
 
   pub ready : 0 ≡ audit r main queue annex → (w : ℕ) → w ≡ width r → settling.Ready r.k w r.used r.queued r.dir main queue annex
   ready z w ew =
@@ -32,8 +32,8 @@ module _ (r : Filter) (main queue annex : List ℕ) where
   pub numbers : (w : ℕ) → w ≡ width r → settling.Numbers r r.k w r.used r.queued r.dir
   numbers w ew = record { k-is = refl; w-is = sym ew; used-is = refl; queued-is = refl; places-are = refl }
 
-  done : (main' annex' : List ℕ) (u : ℕ) (d : List Place) → settling.Leaves (settled r main queue annex (heldAfter r main queue annex)) main' annex' u d
-      → Leaves (settled r main queue annex (heldAfter r main queue annex)) 0 (change r r.k u 0 d) main' queue annex'
+  done : (main' annex' : List ℕ) (u : ℕ) (d : List Place) → settling.Leaves (settled r main queue annex (held_after r main queue annex)) main' annex' u d
+      → Leaves (settled r main queue annex (held_after r main queue annex)) 0 (change r r.k u 0 d) main' queue annex'
   unfolding settled change
   done main' annex' u d l =
       record {
@@ -45,6 +45,6 @@ module _ (r : Filter) (main queue annex : List ℕ) where
       }
 
   pub settle-done : 0 ≡ audit r main queue annex → (main' annex' : List ℕ) (u : ℕ) (d : List Place)
-      → settling.Leaves (settled r main queue annex (heldAfter r main queue annex)) main' annex' u d → Leaves (settle r main queue annex) 0 (change r r.k u 0 d) main' queue annex'
+      → settling.Leaves (settled r main queue annex (held_after r main queue annex)) main' annex' u d → Leaves (settle r main queue annex) 0 (change r r.k u 0 d) main' queue annex'
   unfolding settle give
   settle-done z main' annex' u d l = rw (sym z, give) (done main' annex' u d l)

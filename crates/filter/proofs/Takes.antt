@@ -10,18 +10,18 @@ use borrow.Author.Tests.{eq-eqb, ne_eqb, ltb-true}
 use Rattle.lists.specs.Runs.{rising, has, total}
 use Rattle.lists.proofs.Tests.{no_true}
 use Rattle.lists.proofs.RunLaws.{rises-rising, count-has, length-erase, total-set}
-use Rattle.slots.specs.Payload.{void, canonicalSlot, matches}
+use Rattle.slots.specs.Payload.{void, canonical_slot, matches}
 use Rattle.layout.specs.Machine.{layout}
 use Rattle.layout.specs.Decode.{decode, run_at}
 use Rattle.lookup.specs.Spots.{First}
 use Rattle.rules.specs.Record.{Filter, width}
-use Rattle.rules.specs.Refusals.{refusal, recordRight, slicesRight}
+use Rattle.rules.specs.Refusals.{refusal, record_right, slices_right}
 use Rattle.rules.specs.Sound.{sound}
 use Rattle.rules.specs.Calls.{asked}
-use Rattle.rules.specs.Quick.{home, matched, best, bestIsVoid, queueFull, takeNumber}
+use Rattle.rules.specs.Quick.{home, matched, best, best_is_void, queue_full, take_number}
 use Rattle.keeps.proofs.State.{Fine, long}
 use Rattle.keeps.proofs.Quick.{Found, found, home-lt}
-use Rattle.filter.specs.Contracts.{firstNumber, Chosen}
+use Rattle.filter.specs.Promises.{first_number, Chosen}
 use Rattle.filter.proofs.Outcomes.{first-right, first-asked}
 use Rattle.filter.proofs.Quicks.{fine-state, bounds_of, main-length, found-matched, found-best}
 
@@ -69,48 +69,48 @@ sure-home r main queue annex h v f =
     }
 
 module _ (r : Filter) (main queue annex : List ℕ) (h : ℕ) where
-  pub take-first : (n : ℕ) → suc n ≡ firstNumber r (length main) (length queue) (length annex) → takeNumber r main queue annex h ≡ suc n
-  unfolding takeNumber
+  pub take-first : (n : ℕ) → suc n ≡ first_number r (length main) (length queue) (length annex) → take_number r main queue annex h ≡ suc n
+  unfolding take_number
   take-first n e = first-asked r main queue annex n _ (sym e)
 
-  pub take-6 : 0 ≡ firstNumber r (length main) (length queue) (length annex) → matched r main h ≡ false → takeNumber r main queue annex h ≡ 6
-  unfolding takeNumber asked
+  pub take-6 : 0 ≡ first_number r (length main) (length queue) (length annex) → matched r main h ≡ false → take_number r main queue annex h ≡ 6
+  unfolding take_number asked
   take-6 z e =
       let x = first-right r (length main) (length queue) (length annex) (sym z) in
-      ap (λ (m : Bool). refusal (record { right = recordRight r; number = 2 } ∷ record { right = slicesRight r (length main) (length queue) (length annex); number = 3 } ∷ record { right = m; number = 6 } ∷ record { right = not (bestIsVoid r main h && queueFull r queue); number = 7 } ∷ [])) e
-      ∙ six _ _ (bestIsVoid r main h) (queueFull r queue) x.0 x.1
+      ap (λ (m : Bool). refusal (record { right = record_right r; number = 2 } ∷ record { right = slices_right r (length main) (length queue) (length annex); number = 3 } ∷ record { right = m; number = 6 } ∷ record { right = not (best_is_void r main h && queue_full r queue); number = 7 } ∷ [])) e
+      ∙ six _ _ (best_is_void r main h) (queue_full r queue) x.0 x.1
 
   module _ (c p : ℕ) (ch : Chosen r main queue annex h c p) where
-    numbered : (n : ℕ) → (bestIsVoid r main h && queueFull r queue ≡ true → n ≡ 7) → (bestIsVoid r main h && queueFull r queue ≡ false → n ≡ 0) → takeNumber r main queue annex h ≡ n
-    unfolding takeNumber asked
+    numbered : (n : ℕ) → (best_is_void r main h && queue_full r queue ≡ true → n ≡ 7) → (best_is_void r main h && queue_full r queue ≡ false → n ≡ 0) → take_number r main queue annex h ≡ n
+    unfolding take_number asked
     numbered n f g =
         let x = first-right r (length main) (length queue) (length annex) (sym ch.lent) in
-        four _ _ (matched r main h) (bestIsVoid r main h) (queueFull r queue) x.0 x.1 ch.some n f g
+        four _ _ (matched r main h) (best_is_void r main h) (queue_full r queue) x.0 x.1 ch.some n f g
 
     -- an entry with bits, or a void with room in the queue
-    pub take-bits : (p ≡ void (width r) → ⊥) → takeNumber r main queue annex h ≡ 0
+    pub take-bits : (p ≡ void (width r) → ⊥) → take_number r main queue annex h ≡ 0
     take-bits ne =
-        let e : bestIsVoid r main h ≡ false = ne_eqb _ _ (λ q. ne (ch.entry ∙ q)) in
-        numbered 0 (λ q. absurd (no_true (sym (ap (λ (b : Bool). b && queueFull r queue) e) ∙ q))) (λ q. refl)
+        let e : best_is_void r main h ≡ false = ne_eqb _ _ (λ q. ne (ch.entry ∙ q)) in
+        numbered 0 (λ q. absurd (no_true (sym (ap (λ (b : Bool). b && queue_full r queue) e) ∙ q))) (λ q. refl)
 
-    pub take-void : (r.queued ≡ 1048576 → ⊥) → (r.queued ≡ length queue → ⊥) → takeNumber r main queue annex h ≡ 0
+    pub take-void : (r.queued ≡ 1048576 → ⊥) → (r.queued ≡ length queue → ⊥) → take_number r main queue annex h ≡ 0
     take-void n1 n2 =
-        let e : queueFull r queue ≡ false = or-false _ _ (ne_eqb _ _ n1) (ne_eqb _ _ n2) in
-        numbered 0 (λ q. absurd (no_true (sym (and_none (bestIsVoid r main h) (queueFull r queue) e) ∙ q))) (λ q. refl)
+        let e : queue_full r queue ≡ false = or-false _ _ (ne_eqb _ _ n1) (ne_eqb _ _ n2) in
+        numbered 0 (λ q. absurd (no_true (sym (and_none (best_is_void r main h) (queue_full r queue) e) ∙ q))) (λ q. refl)
       where
         and_none : (a b : Bool) → b ≡ false → a && b ≡ false
         and_none true b e = e
         and_none false b e = refl
 
-    full : p ≡ void (width r) → queueFull r queue ≡ true → takeNumber r main queue annex h ≡ 7
+    full : p ≡ void (width r) → queue_full r queue ≡ true → take_number r main queue annex h ≡ 7
     full v e =
-        let d : bestIsVoid r main h ≡ true = eq-eqb _ _ (sym ch.entry ∙ v) in
+        let d : best_is_void r main h ≡ true = eq-eqb _ _ (sym ch.entry ∙ v) in
         numbered 7 (λ q. refl) (λ q. absurd (no_true (sym q ∙ ap₂ ◌&&◌ d e)))
 
-    pub take-full : p ≡ void (width r) → r.queued ≡ 1048576 → takeNumber r main queue annex h ≡ 7
+    pub take-full : p ≡ void (width r) → r.queued ≡ 1048576 → take_number r main queue annex h ≡ 7
     take-full v e = full v (ap (λ (b : Bool). b || eqb r.queued (length queue)) (eq-eqb _ _ e))
 
-    pub take-lent : p ≡ void (width r) → r.queued ≡ length queue → takeNumber r main queue annex h ≡ 7
+    pub take-lent : p ≡ void (width r) → r.queued ≡ length queue → take_number r main queue annex h ≡ 7
     take-lent v e = full v (or_right (eqb r.queued (2 ^ 20)) (eqb r.queued (length queue)) (eq-eqb _ _ e))
       where
         or_right : (a b : Bool) → b ≡ true → a || b ≡ true
@@ -147,7 +147,7 @@ module _ (r : Filter) (main queue annex : List ℕ) (h : ℕ) where
         subst (λ (x : ℕ). Sure r main x p) (sym ch.slot) (subst (λ (x : ℕ). Sure r main (home r h) x) (sym ch.entry) (sure-home r main queue annex h v f))
 
   -- the walk has found the longest match
-  pub chosen : 0 ≡ firstNumber r (length main) (length queue) (length annex) → (c w : ℕ) → c ≡ canonicalSlot r.k h → w ≡ width r → (b : Bool) (p : ℕ)
+  pub chosen : 0 ≡ first_number r (length main) (length queue) (length annex) → (c w : ℕ) → c ≡ canonical_slot r.k h → w ≡ width r → (b : Bool) (p : ℕ)
       → First (matches w r.k h) (run_at main c) b p → b ≡ true → Chosen r main queue annex h c p
   chosen z c w ec ew b p m e =
       record {

@@ -1,4 +1,4 @@
 -- How the code's record is read, and what the calls' contracts say.
 pub mod Plain
-pub mod Contracts
+pub mod Promises
 pub mod Restart

@@ -1,15 +1,15 @@
 // The record of a filter, by value, and its calls.
 ghost use Rattle.std.specs.Prelude.{◌≡◌, ◌+◌, ◌*◌, ◌≤◌, ◌<◌, T, length, replicate};
-ghost use Rattle.directory.specs.Places.{noPlace, offsetIn};
-ghost use Rattle.rules.specs.Record.{fresh, width, width_at, inUse, annexUsed, allZero};
-ghost use Rattle.rules.specs.Refusals.{settingsRight, recordRight, slicesRight};
+ghost use Rattle.directory.specs.Places.{no_place, offset_in};
+ghost use Rattle.rules.specs.Record.{fresh, width, width_at, in_use, annex_used, all_zero};
+ghost use Rattle.rules.specs.Refusals.{settings_right, record_right, slices_right};
 ghost use Rattle.rules.specs.Quick.{query};
 ghost use Rattle.rules.specs.Slow.{audit};
 ghost use Rattle.rules.specs.Lookups.{part};
 ghost use Rattle.filter.specs.Plain.{plain};
 ghost use Rattle.filter.specs.Restart.{restart};
 ghost use Rattle.slots.specs.Payload.{void};
-ghost use Rattle.filter.specs.Contracts.{firstNumber, Starts, Inserts, Deletes, Rejuvenates, Audits, Settles, Doubles, Chosen, Renewing, BeforeRoom, Leaves};
+ghost use Rattle.filter.specs.Promises.{first_number, Starts, Inserts, Deletes, Rejuvenates, Audits, Settles, Doubles, Chosen, Renewing, BeforeRoom, Leaves};
 
 use directory::{Place, Reading};
 
@@ -33,7 +33,7 @@ pub struct Answer {
 }
 
 fn settings_right(power: u32, f: u32, regime: u32) -> bool
-    ensures { result ≡ settingsRight power f regime }
+    ensures { result ≡ settings_right power f regime }
 {
     ((3 <= power) & (power <= 10)) & (((3 <= f) & (f <= 15)) & (regime <= 1))
 }
@@ -41,7 +41,7 @@ fn settings_right(power: u32, f: u32, regime: u32) -> bool
 impl Record {
     // Whether number 2 is not given, and the words of the annex tables in use where it is not.
     fn in_range(self) -> Reading
-        ensures { (result.right ≡ recordRight (plain self)) × (T (recordRight (plain self)) → result.words ≡ annexUsed (plain self)) }
+        ensures { (result.right ≡ record_right (plain self)) × (T (record_right (plain self)) → result.words ≡ annex_used (plain self)) }
     {
         let k = self.k;
         if settings_right(self.start, self.f, self.regime) {
@@ -61,8 +61,8 @@ impl Record {
 
     // Number 3 is not given, where the annex tables take so many words.
     fn lent_right(self, taken: usize, main: usize, queue: usize, annex: usize) -> bool
-        requires { T (recordRight (plain self)) × (taken ≡ annexUsed (plain self)) }
-        ensures { result ≡ slicesRight (plain self) main queue annex }
+        requires { T (record_right (plain self)) × (taken ≡ annex_used (plain self)) }
+        ensures { result ≡ slices_right (plain self) main queue annex }
     {
         let slots = slots::pow2(self.k) as usize;
         let queued = self.queued as usize;
@@ -71,7 +71,7 @@ impl Record {
 
     // 2, 3, or 0 where neither is given.
     pub fn first_number(self, main: usize, queue: usize, annex: usize) -> u32
-        ensures { result ≡ firstNumber (plain self) main queue annex }
+        ensures { result ≡ first_number (plain self) main queue annex }
     {
         let read = self.in_range();
         if read.right {
@@ -85,7 +85,7 @@ impl Record {
 
     // The length of fresh fingerprints.
     pub fn fresh_length(self) -> u32
-        requires { T (recordRight (plain self)) }
+        requires { T (record_right (plain self)) }
         ensures { (result ≡ fresh (plain self)) × ((3 ≤ result) × (result ≤ 25)) }
     {
         self.f + slots::extra_bits(self.regime, self.k - self.start)
@@ -93,7 +93,7 @@ impl Record {
 
     // The width of payloads.
     pub fn width(self) -> u32
-        requires { T (recordRight (plain self)) }
+        requires { T (record_right (plain self)) }
         ensures { (result ≡ width (plain self)) × ((4 ≤ result) × (result ≤ 26)) }
     {
         self.fresh_length() + 1
@@ -451,8 +451,8 @@ impl Record {
 
     // The words of the annex tables in use.
     fn annex_used(self) -> usize
-        requires { T (recordRight (plain self)) }
-        ensures { (result ≡ annexUsed (plain self)) × (result ≤ 1048576) }
+        requires { T (record_right (plain self)) }
+        ensures { (result ≡ annex_used (plain self)) × (result ≤ 1048576) }
     {
         let dir = self.dir;
         let n = directory::places_in_use(dir);
@@ -461,7 +461,7 @@ impl Record {
 
     // The width of payloads after the next doubling.
     fn next_width(self) -> u32
-        requires { T (recordRight (plain self)) × (self.k < 20) }
+        requires { T (record_right (plain self)) × (self.k < 20) }
         ensures { result ≡ width_at (plain self) (self.k + 1) }
     {
         self.f + slots::extra_bits(self.regime, self.k + 1 - self.start) + 1
@@ -536,7 +536,7 @@ impl Record {
     pub fn part<'a>(self, annex: &'a [u32], b: u32) -> &'a [u32]
         ensures words { result.now ≡ part (plain self) annex.now b }
         ensures itself { result.ref_ptr.0 ≡ annex.entry.ref_ptr.0 }
-        ensures there { 0 < length result.now → result.ref_ptr.1 ≡ annex.entry.ref_ptr.1 + 4 * offsetIn b (inUse (plain self)) }
+        ensures there { 0 < length result.now → result.ref_ptr.1 ≡ annex.entry.ref_ptr.1 + 4 * offset_in b (in_use (plain self)) }
     {
         let read = self.in_range();
         if read.right {
@@ -552,7 +552,7 @@ impl Record {
 }
 
 fn no_places() -> [Place; 15]
-    ensures { result ≡ replicate 15 noPlace }
+    ensures { result ≡ replicate 15 no_place }
 {
     [Place {
         b: 0,
@@ -627,7 +627,7 @@ impl Record {
 }
 
 fn all_zero() -> Record
-    ensures { plain result ≡ allZero }
+    ensures { plain result ≡ all_zero }
 {
     Record {
         k: 0,

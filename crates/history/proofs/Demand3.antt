@@ -14,11 +14,11 @@ use Rattle.lists.specs.Runs.{count}
 use Rattle.lists.proofs.RunLaws.{count-erase}
 use Rattle.slots.specs.Payload.{void, length_of}
 use Rattle.layout.specs.Decode.{decode}
-use Rattle.rules.specs.Record.{Filter, change, freshAt, width_at, width, fresh, inUse}
+use Rattle.rules.specs.Record.{Filter, change, fresh_at, width_at, width, fresh, in_use}
 use Rattle.rules.specs.Refusals.{Test, refusal}
-use Rattle.rules.specs.Tables.{tables, mothersOf}
+use Rattle.rules.specs.Tables.{tables, mothers_of}
 use Rattle.rules.specs.Calls.{Outcome, give, refused}
-use Rattle.rules.specs.Quick.{best, matched, matchesIn, bestIsVoid, queueFull, takeNumber, deleted, delete, rejuvenated, rejuvenate}
+use Rattle.rules.specs.Quick.{best, matched, matches_in, best_is_void, queue_full, take_number, deleted, delete, rejuvenated, rejuvenate}
 use Rattle.rules.specs.Slow.{audit, settled, settle}
 use Rattle.keeps.proofs.Refusals.{refusal-passed, zero-asked}
 use Rattle.keeps.proofs.Audits.{good-audit}
@@ -101,7 +101,7 @@ exact {cs} {s} hi =
 
 -- "Directly after a settle, valid calls or not, each address holds as many void entries as stored mother hashes match it."
 abbrev MatchIn : Filter → List ℕ → List ℕ → Type 0
-MatchIn r main annex = (a : ℕ) → a < 2 ^ r.k → count (void (width r)) (get_or (decode main) a []) ≡ mothersOf a (tables (inUse r) annex)
+MatchIn r main annex = (a : ℕ) → a < 2 ^ r.k → count (void (width r)) (get_or (decode main) a []) ≡ mothers_of a (tables (in_use r) annex)
 
 settled-in : (r : Filter) (main queue annex : List ℕ) → (settle r main queue annex).number ≡ 0
     → MatchIn (settle r main queue annex).rec (settle r main queue annex).main (settle r main queue annex).annex
@@ -111,7 +111,7 @@ settled-in r main queue annex z a h =
   where
     same : ((settle r main queue annex).rec.k ≡ r.k) × (width (settle r main queue annex).rec ≡ width r)
     same =
-        subst (λ (o : Outcome). (o.rec.k ≡ r.k) × (width o.rec ≡ width r)) (sym (settle_is r main queue annex z)) (unfold settled change freshAt width_at in (refl, refl))
+        subst (λ (o : Outcome). (o.rec.k ≡ r.k) × (width o.rec ≡ width r)) (sym (settle_is r main queue annex z)) (unfold settled change fresh_at width_at in (refl, refl))
 
 -- on any words on which Settle is accepted
 pub settled-match : (s t : Words) → Accepted Settle s t → VoidsMatch t
@@ -123,7 +123,7 @@ unfolding VoidsMatch
 lent-match s t l m =
     subst (λ (r : Filter). MatchIn r t.main t.annex) (sym l.same-record)
     (subst (λ (x : List ℕ). MatchIn s.rec x t.annex) (sym l.same-main)
-    (λ a h. m a h ∙ ap (mothersOf a) (sym (tables-same (inUse s.rec) t.annex s.annex l.same-annex))))
+    (λ a h. m a h ∙ ap (mothers_of a) (sym (tables-same (in_use s.rec) t.annex s.annex l.same-annex))))
 
 -- and so after any accepted calls of which a settle is the last
 pub after-settle : {cs : List Call} {s : Words} → AnyHistory (Settle ∷ cs) s → VoidsMatch s
@@ -156,17 +156,17 @@ module _ {cs : List Call} {s : Words} (hi : History cs s) (h : ℕ) (l : IsHeld 
   r = s.rec
 
   abbrev n : ℕ
-  n = takeNumber s.rec s.main s.queue s.annex h
+  n = take_number s.rec s.main s.queue s.annex h
 
   -- Delete and Rejuvenate are accepted, or refused by 7: "the longest match is void and the queue is full"
-  pub held_number : (takeNumber s.rec s.main s.queue s.annex h ≡ 0) ⊎ (takeNumber s.rec s.main s.queue s.annex h ≡ 7)
-  unfolding takeNumber
+  pub held_number : (take_number s.rec s.main s.queue s.annex h ≡ 0) ⊎ (take_number s.rec s.main s.queue s.annex h ≡ 7)
+  unfolding take_number
   held_number =
       let g = (keeps-invariant hi).0 in
-      let full : Test = record { right = not (bestIsVoid r s.main h && queueFull r s.queue); number = 7 } in
+      let full : Test = record { right = not (best_is_void r s.main h && queue_full r s.queue); number = 7 } in
       seven full.right
       (zero-asked r s.main s.queue s.annex _ g.record-right g.slices-right
-      ∙ refusal-passed (record { right = matched r s.main h; number = 6 }) (full ∷ []) (lt→ltb 0 (length (matchesIn r s.main h)) (yes-matches s g h (held-yes hi h l))))
+      ∙ refusal-passed (record { right = matched r s.main h; number = 6 }) (full ∷ []) (lt→ltb 0 (length (matches_in r s.main h)) (yes-matches s g h (held-yes hi h l))))
     where
       seven : (b : Bool) → n ≡ refusal (record { right = b; number = 7 } ∷ []) → (n ≡ 0) ⊎ (n ≡ 7)
       seven true e = inl (e ∙ (unfold refusal in refl))

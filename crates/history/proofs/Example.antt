@@ -24,7 +24,7 @@ use Rattle.rules.specs.Doubling
 use Rattle.rules.specs.Calls
 use Rattle.rules.specs.Quick
 use Rattle.rules.specs.Slow
-use Rattle.history.specs.History.{Call, Query, Insert, Delete, Rejuvenate, Audit, Settle, Double, inserts, deletes, IsHeld, after, held, Valid, Words, left, Started, Accepted, History, Answered, with_bits, storedHashes}
+use Rattle.history.specs.History.{Call, Query, Insert, Delete, Rejuvenate, Audit, Settle, Double, inserts, deletes, IsHeld, after, held, Valid, Words, left, Started, Accepted, History, Answered, with_bits, stored_hashes}
 use Rattle.history.proofs.Demand3.{answered, exact}
 
 -- ---- a history is played
@@ -34,7 +34,7 @@ abbrev pub second : Words → List ℕ
 second s = replicate (length s.main * 2) 1
 
 unfoldable pub number : Call → Words → ℕ
-number (Query h) s = Quick.queryNumber s.rec s.main s.queue s.annex
+number (Query h) s = Quick.query_number s.rec s.main s.queue s.annex
 number (Insert h) s = (Quick.insert s.rec s.main s.queue s.annex h).number
 number (Delete h) s = (Quick.delete s.rec s.main s.queue s.annex h).number
 number (Rejuvenate h) s = (Quick.rejuvenate s.rec s.main s.queue s.annex h).number
@@ -52,7 +52,7 @@ next Settle s = left (Slow.settle s.rec s.main s.queue s.annex)
 next Double s =
     record {
       rec = (Slow.double s.rec s.main s.queue s.annex (length (second s))).rec;
-      main = Slow.secondMain s.rec s.main s.queue s.annex (second s);
+      main = Slow.second_main s.rec s.main s.queue s.annex (second s);
       queue = (Slow.double s.rec s.main s.queue s.annex (length (second s))).queue;
       annex = (Slow.double s.rec s.main s.queue s.annex (length (second s))).annex;
     }
@@ -158,53 +158,53 @@ ended = ends settling queued
 unfoldable pub past : List Call
 past = calls settling (calls taking (calls middle (calls first [])))
 
-abbrev queueSame : Words → Words → Bool
-queueSame s t = Lists.same (take s.rec.queued t.queue) (take s.rec.queued s.queue)
+abbrev queue_same : Words → Words → Bool
+queue_same s t = Lists.same (take s.rec.queued t.queue) (take s.rec.queued s.queue)
 
-abbrev annexSame : Words → Words → Bool
-annexSame s t = Lists.same (take (Record.annexUsed s.rec) t.annex) (take (Record.annexUsed s.rec) s.annex)
+abbrev annex_same : Words → Words → Bool
+annex_same s t = Lists.same (take (Record.annex_used s.rec) t.annex) (take (Record.annex_used s.rec) s.annex)
 
 -- what the checker computes of them; before Settle and at the end, the numbers that demand 3 speaks of
 unfoldable pub tests : List Bool
 tests =
     playable first [] begun
-    ∷ queueSame refused-10 roomier
-    ∷ annexSame refused-10 roomier
+    ∷ queue_same refused-10 roomier
+    ∷ annex_same refused-10 roomier
     ∷ playable middle (calls first []) roomier
-    ∷ queueSame refused-7 longer
-    ∷ annexSame refused-7 longer
+    ∷ queue_same refused-7 longer
+    ∷ annex_same refused-7 longer
     ∷ playable taking (calls middle (calls first [])) longer
     ∷ playable settling (calls taking (calls middle (calls first []))) queued
     ∷ eqb (number Double refused-10) 10
     ∷ eqb (number (Delete 20) refused-7) 7
     ∷ eqb (with_bits queued) 1
-    ∷ eqb (storedHashes queued) 2
+    ∷ eqb (stored_hashes queued) 2
     ∷ eqb queued.rec.queued 2
     ∷ eqb (with_bits ended) 1
-    ∷ eqb (storedHashes ended) 0
+    ∷ eqb (stored_hashes ended) 0
     ∷ eqb ended.rec.queued 0
     ∷ eqb (length (held past)) 1
     ∷ []
 
 computed : T (Lists.every (λ (b : Bool). b) tests)
 unfolding tests past ended settling queued taking longer refused-7 middle roomier refused-10 first begun playable ends calls right next number
-    held after inserts deletes with_bits storedHashes
-    Lists.same Lists.every Lists.some_of Lists.sum Lists.front Lists.behind Lists.mapAt
-    Runs.risesFrom Runs.rising Runs.add Runs.erase Runs.eraseAll Runs.has Runs.count Runs.hits Runs.total
-    Numbers.limit Numbers.firstPower Numbers.roundedUpLog Numbers.widening Numbers.extra
-    Payload.pay Payload.void Payload.tombstone Payload.rest_of Payload.length_of Payload.fingerprintOf Payload.canonicalSlot Payload.hashBits Payload.matches Payload.freshPayload
+    held after inserts deletes with_bits stored_hashes
+    Lists.same Lists.every Lists.some_of Lists.sum Lists.front Lists.behind Lists.map_at
+    Runs.rises_from Runs.rising Runs.add Runs.erase Runs.erase_all Runs.has Runs.count Runs.hits Runs.total
+    Numbers.limit Numbers.first_power Numbers.rounded_up_log Numbers.widening Numbers.extra
+    Payload.pay Payload.void Payload.tombstone Payload.rest_of Payload.length_of Payload.fingerprint_of Payload.canonical_slot Payload.hash_bits Payload.matches Payload.fresh_payload
     Machine.mark Machine.emit Machine.rest Machine.scan Machine.left Machine.pend Machine.layout
-    Decode.entry Decode.steps Decode.passed Decode.mores Decode.nth Decode.skip Decode.lastRun Decode.lastPlace Decode.place_of Decode.run_at Decode.runsFrom Decode.decode
-    Places.placesRight Places.directoryRight Places.wordsTaken Places.partIn Places.keep Places.trim
-    Record.change Record.freshAt Record.width_at
-    Refusals.refusal Refusals.settingsRight Refusals.recordRight Refusals.slicesRight
-    Tables.matching Tables.mothersOf Tables.tables Tables.tableWords Tables.place_of
-    Sound.laid Sound.tableRight Sound.mainEntry Sound.annexEntry Sound.annexRight Sound.naming Sound.addressRight Sound.mainRight Sound.queueRight Sound.addressesRight Sound.sound
-    Settling.longest Settling.takeHash Settling.takeVoids Settling.settleFound Settling.settleWord Settling.settleAll Settling.noTombstones
-    Doubling.half Doubling.halfRun Doubling.doubled Doubling.becomeVoid Doubling.newHashes Doubling.sizeFrom Doubling.table_of
-    Calls.give Calls.refused Calls.asked Calls.startNumber Calls.started Calls.start
-    Quick.matchesIn Quick.best Quick.queryNumber Quick.query Quick.insertNumber Quick.inserted Quick.insert Quick.takeNumber Quick.deleted Quick.delete Quick.rejuvenated Quick.rejuvenate
-    Slow.audit Slow.heldAfter Slow.settled Slow.settle Slow.hashes Slow.room_for Slow.doubleNumber Slow.doubledRuns Slow.secondMain Slow.moreAnnex Slow.moreDir Slow.doubledOutcome Slow.double
+    Decode.entry Decode.steps Decode.passed Decode.mores Decode.nth Decode.skip Decode.last_run Decode.last_place Decode.place_of Decode.run_at Decode.runs_from Decode.decode
+    Places.places_right Places.directory_right Places.words_taken Places.part_in Places.keep Places.trim
+    Record.change Record.fresh_at Record.width_at
+    Refusals.refusal Refusals.settings_right Refusals.record_right Refusals.slices_right
+    Tables.matching Tables.mothers_of Tables.tables Tables.table_words Tables.place_of
+    Sound.laid Sound.table_right Sound.main_entry Sound.annex_entry Sound.annex_right Sound.naming Sound.address_right Sound.main_right Sound.queue_right Sound.addresses_right Sound.sound
+    Settling.longest Settling.take_hash Settling.take_voids Settling.settle_found Settling.settle_word Settling.settle_all Settling.no_tombstones
+    Doubling.half Doubling.half_run Doubling.doubled Doubling.become_void Doubling.new_hashes Doubling.size_from Doubling.table_of
+    Calls.give Calls.refused Calls.asked Calls.start_number Calls.started Calls.start
+    Quick.matches_in Quick.best Quick.query_number Quick.query Quick.insert_number Quick.inserted Quick.insert Quick.take_number Quick.deleted Quick.delete Quick.rejuvenated Quick.rejuvenate
+    Slow.audit Slow.held_after Slow.settled Slow.settle Slow.hashes Slow.room_for Slow.double_number Slow.doubled_runs Slow.second_main Slow.more_annex Slow.more_dir Slow.doubled_outcome Slow.double
 computed = tt
 
 -- test n
@@ -214,7 +214,7 @@ test n h = every_get (λ (b : Bool). b) tests true computed n h
 -- ---- the history
 
 started : Started begun
-unfolding begun Calls.start Calls.startNumber Calls.started Refusals.refusal Refusals.settingsRight Calls.give
+unfolding begun Calls.start Calls.start_number Calls.started Refusals.refusal Refusals.settings_right Calls.give
 started = record { power = 3; f = 3; regime = 0; main = replicate 8 9; queue = []; annex = []; accepted = refl; leaves = refl }
 
 history-1 : History (calls first []) refused-10
@@ -247,6 +247,6 @@ unfolding Answered
 still-yes = answered history 84 (unfold IsHeld past settling taking middle first calls inserts deletes Lists.sum in lit< tt)
 
 -- one hash is held
-pub one_left : with_bits ended + storedHashes ended - ended.rec.queued ≡ 1
+pub one_left : with_bits ended + stored_hashes ended - ended.rec.queued ≡ 1
 unfolding past settling taking middle first calls held after Runs.erase
 one_left = (exact history).less

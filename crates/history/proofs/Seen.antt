@@ -16,15 +16,15 @@ use Rattle.lists.specs.Runs.{Runs, add, erase}
 use Rattle.lists.proofs.Alls.{All, all_map}
 use Rattle.lists.proofs.Sums.{Same}
 use Rattle.lists.proofs.RunLaws.{add_same, erase_same}
-use Rattle.slots.specs.Payload.{void, tombstone, rest_of, length_of, canonicalSlot, matches}
+use Rattle.slots.specs.Payload.{void, tombstone, rest_of, length_of, canonical_slot, matches}
 use Rattle.slots.proofs.PayloadLaws.{rest_le, rising-rest, void-rest, tombstone-rest, true-match, fresh-match}
 use Rattle.layout.specs.Machine.{layout}
 use Rattle.layout.specs.Decode.{decode}
-use Rattle.rules.specs.Record.{Filter, change, freshAt, width_at, fresh, width, inUse}
+use Rattle.rules.specs.Record.{Filter, change, fresh_at, width_at, fresh, width, in_use}
 use Rattle.rules.specs.Tables.{tables}
-use Rattle.rules.specs.Sound.{mainEntry}
+use Rattle.rules.specs.Sound.{main_entry}
 use Rattle.rules.specs.Calls.{Outcome, refused}
-use Rattle.rules.specs.Quick.{home, freshEntry, inserted, insert, delete, rejuvenate}
+use Rattle.rules.specs.Quick.{home, fresh_entry, inserted, insert, delete, rejuvenate}
 use Rattle.keeps.proofs.State.{Good, Fine, fine}
 use Rattle.keeps.proofs.Bounds.{sizes, width-fresh, width-pos, width-26}
 use Rattle.keeps.proofs.Entries.{passes-lt}
@@ -34,14 +34,14 @@ use Rattle.keeps.proofs.Parts.{tables-of}
 use Rattle.history.specs.History.{Words, left}
 use Rattle.history.proofs.Strings.{Item}
 use Rattle.history.proofs.Abstract.{State, Shape, Inserted, Removed, Queued, Kept}
-use Rattle.history.proofs.Bridge.{length_rest, view, hasBits, weight, weightless, Hit, all-table, all-run, all_true, inserted as one_more, removed as one_less, queued as one-off}
+use Rattle.history.proofs.Bridge.{length_rest, view, has_bits, weight, weightless, Hit, all-table, all-run, all_true, inserted as one_more, removed as one_less, queued as one-off}
 use Rattle.history.proofs.Hashes.{mothers, mothers-short}
 
-abbrev pub seenOf : Filter → List ℕ → List ℕ → List ℕ → State
-seenOf r main queue annex = view (width r) r.k (decode main) (mothers (tables (inUse r) annex)) (map (λ w. w / 2) (take r.queued queue))
+abbrev pub seen_of : Filter → List ℕ → List ℕ → List ℕ → State
+seen_of r main queue annex = view (width r) r.k (decode main) (mothers (tables (in_use r) annex)) (map (λ w. w / 2) (take r.queued queue))
 
 abbrev pub seen : Words → State
-seen s = seenOf s.rec s.main s.queue s.annex
+seen s = seen_of s.rec s.main s.queue s.annex
 
 abbrev pub GoodWords : Words → Type 0
 GoodWords s = Good s.rec s.main s.queue s.annex
@@ -64,7 +64,7 @@ shape s g =
       long = all-table P w r.k (decode s.main)
           (λ j lt. all-run P (λ _. Unit {0}) w r.k j (λ p _ hb. (omega (arith, ltb-true 1 (rest_of w p) hb, length_rest w p), short-64 v p)) (get_or (decode s.main) j [])
           (all_true (get_or (decode s.main) j [])));
-      short = mothers-short r.k 5 (tables (inUse r) s.annex) (tables-of v).are;
+      short = mothers-short r.k 5 (tables (in_use r) s.annex) (tables-of v).are;
     }
 
 -- ---- the queue
@@ -94,7 +94,7 @@ module _ (r : Filter) (main queue annex : List ℕ) (h : ℕ) (g : Good r main q
 
   -- the state with these runs and this queue
   abbrev state : Runs → List ℕ → State
-  state rs Q = view w r.k rs (mothers (tables (inUse r) annex)) Q
+  state rs Q = view w r.k rs (mothers (tables (in_use r) annex)) Q
 
   abbrev Q : List ℕ
   Q = map (λ w. w / 2) (take r.queued queue)
@@ -105,21 +105,21 @@ module _ (r : Filter) (main queue annex : List ℕ) (h : ℕ) (g : Good r main q
   hl : c < length runs
   hl = omega (arith, v.table.size, home-lt r h)
 
-  has : (p : ℕ) → 1 < rest_of w p → hasBits w p ≡ true
+  has : (p : ℕ) → 1 < rest_of w p → has_bits w p ≡ true
   has p l = lt-ltb 1 (rest_of w p) l
 
   -- a changed record and table are seen so
   changed : (rs : Runs) (u n : ℕ) (queue' : List ℕ) → Fine (change r r.k u n r.dir) (layout rs) queue' annex rs
-      → seenOf (change r r.k u n r.dir) (layout rs) queue' annex ≡ state rs (map (λ w. w / 2) (take n queue'))
-  unfolding change freshAt width_at
+      → seen_of (change r r.k u n r.dir) (layout rs) queue' annex ≡ state rs (map (λ w. w / 2) (take n queue'))
+  unfolding change fresh_at width_at
   changed rs u n queue' f = ap (λ (x : Runs). state x (map (λ w. w / 2) (take n queue'))) f.table.held
 
   -- a fresh entry comes into a table of this size
-  put_in : (rs : Runs) (Q' : List ℕ) → length rs ≡ 2 ^ r.k → Inserted h (state rs Q') (state (set rs c (add (freshEntry r h) (get_or rs c []))) Q')
-  unfolding canonicalSlot
+  put_in : (rs : Runs) (Q' : List ℕ) → length rs ≡ 2 ^ r.k → Inserted h (state rs Q') (state (set rs c (add (fresh_entry r h) (get_or rs c []))) Q')
+  unfolding canonical_slot
   put_in rs Q' len =
-      let p : ℕ = freshEntry r h in
-      one_more w r.k h rs len (add p (get_or rs c [])) (mothers (tables (inUse r) annex)) Q' p
+      let p : ℕ = fresh_entry r h in
+      one_more w r.k h rs len (add p (get_or rs c [])) (mothers (tables (in_use r) annex)) Q' p
       (record { some = has p (is-fresh r main queue annex runs v h).bits; same = (fresh-match w (fresh r) r.k h (width-fresh r r.k)).same }) (short-64 v p)
       (add_same p (get_or rs c []))
 
@@ -131,7 +131,7 @@ module _ (r : Filter) (main queue annex : List ℕ) (h : ℕ) (g : Good r main q
     no_longer : All (λ q. Hit w r.k h q → rest_of w q ≤ rest_of w p) run
     no_longer = go run f.chosen.first f.passed
       where
-        go : (l : List ℕ) → All (λ q. matches w r.k h q ≡ true → p ≤ q) l → All (λ q. T (mainEntry w r.k q)) l → All NoLonger l
+        go : (l : List ℕ) → All (λ q. matches w r.k h q ≡ true → p ≤ q) l → All (λ q. T (main_entry w r.k q)) l → All NoLonger l
         go [] a b = tt
         go (q ∷ l) a b = (
           λ x.
@@ -141,10 +141,10 @@ module _ (r : Filter) (main queue annex : List ℕ) (h : ℕ) (g : Good r main q
         )
 
     take_out : (p ≡ void w → ⊥) → Removed h (state runs Q) (state (set runs c (erase p run)) Q)
-    unfolding canonicalSlot
+    unfolding canonical_slot
     take_out ne =
         let b : 1 < rest_of w p = bits_of r h p run f ne in
-        one_less w r.k h runs v.table.size (erase p run) (mothers (tables (inUse r) annex)) Q p (record { some = has p b; same = f.match.same }) (short-64 v p)
+        one_less w r.k h runs v.table.size (erase p run) (mothers (tables (in_use r) annex)) Q p (record { some = has p b; same = f.match.same }) (short-64 v p)
         (omega (arith, length_rest w p)) (erase_same p run f.chosen.inside)
         (all_map NoLonger (λ q. Hit w r.k h q → r.k + length_of w q ≤ r.k + length_of w p)
         (λ q l x. omega (arith, l x, length_rest w q, length_rest w p)) run no_longer)
@@ -152,10 +152,10 @@ module _ (r : Filter) (main queue annex : List ℕ) (h : ℕ) (g : Good r main q
     -- a void goes, or becomes what has no bits
     put-off : (run' : List ℕ) → p ≡ void w → ((g : ℕ → ℕ) → g (void w) ≡ 0 → g (tombstone w) ≡ 0 → sum g run' ≡ sum g run)
         → Queued h (state runs Q) (state (set runs c run') (Q ++ c ∷ []))
-    unfolding canonicalSlot
+    unfolding canonical_slot
     put-off run' e s =
         let one : rest_of w (void w) ≡ 1 = void-rest w (width-pos r r.k) in
-        one-off w r.k h runs v.table.size run' (mothers (tables (inUse r) annex)) Q
+        one-off w r.k h runs v.table.size run' (mothers (tables (in_use r) annex)) Q
         (all_map NoLonger (λ q. Hit w r.k h q → ⊥) (λ q l x. omega (arith, l x, ltb-true 1 (rest_of w q) x.some, ap (rest_of w) e, one)) run no_longer)
         (λ f. s (weight f w r.k c) (weightless f w r.k c (void w) (omega arith)) (weightless f w r.k c (tombstone w) (omega (arith, tombstone-rest w))))
 
@@ -168,25 +168,25 @@ module _ (r : Filter) (main queue annex : List ℕ) (h : ℕ) (g : Good r main q
     buried e g z y = omega (arith, add_same (tombstone w) (erase p run) g, erased e g z)
 
     -- a fresh entry in the place of another
-    put_back : (Q' : List ℕ) → Inserted h (state (set runs c (erase p run)) Q') (state (set runs c (add (freshEntry r h) (erase p run))) Q')
+    put_back : (Q' : List ℕ) → Inserted h (state (set runs c (erase p run)) Q') (state (set runs c (add (fresh_entry r h) (erase p run))) Q')
     put_back Q' =
         let rs : Runs = set runs c (erase p run) in
         subst (λ (x : Runs). Inserted h (state rs Q') (state x Q'))
-        (ap (λ (l : List ℕ). set rs c (add (freshEntry r h) l)) (get_or-set_same runs c (erase p run) [] hl) ∙ set-set runs c (erase p run) (add (freshEntry r h) (erase p run)))
+        (ap (λ (l : List ℕ). set rs c (add (fresh_entry r h) l)) (get_or-set_same runs c (erase p run) [] hl) ∙ set-set runs c (erase p run) (add (fresh_entry r h) (erase p run)))
         (put_in rs Q' (length-set runs c (erase p run) ∙ v.table.size))
 
   -- ---- the calls
 
-  pub insert-step : (insert r main queue annex h).number ≡ 0 → Inserted h (seenOf r main queue annex) (seen (left (insert r main queue annex h)))
+  pub insert-step : (insert r main queue annex h).number ≡ 0 → Inserted h (seen_of r main queue annex) (seen (left (insert r main queue annex h)))
   unfolding inserted
   insert-step z =
       let d = insert-done r main queue annex h g z in
-      let rs : Runs = set runs c (add (freshEntry r h) run) in
+      let rs : Runs = set runs c (add (fresh_entry r h) run) in
       subst (λ (t : State). Inserted h (state runs Q) t) (sym (ap (λ (o : Outcome). seen (left o)) d.0 ∙ changed rs (r.used + 1) r.queued queue d.1))
       (put_in runs Q v.table.size)
 
   abbrev Lost : State → Type 0
-  Lost t = Removed h (seenOf r main queue annex) t ⊎ Queued h (seenOf r main queue annex) t
+  Lost t = Removed h (seen_of r main queue annex) t ⊎ Queued h (seen_of r main queue annex) t
 
   lost : (o : Outcome) → Deletes r main queue annex h o → Lost (seen (left o))
   lost o (Deletes.bits p f ne e) =
@@ -204,18 +204,18 @@ module _ (r : Filter) (main queue annex : List ℕ) (h : ℕ) (g : Good r main q
   delete-step z = lost (delete r main queue annex h) (delete-done r main queue annex h g z)
 
   abbrev Renewed : State → Type 0
-  Renewed t = Kept (seenOf r main queue annex) t ⊎ ((m : State) × Lost m × Inserted h m t)
+  Renewed t = Kept (seen_of r main queue annex) t ⊎ ((m : State) × Lost m × Inserted h m t)
 
   renewed : (o : Outcome) → Renews r main queue annex h o → Renewed (seen (left o))
   unfolding refused Same
   renewed o (Renews.kept p f l e) =
       subst Renewed (sym (ap (λ (o : Outcome). seen (left o)) e)) (inl (record { size = refl; bits = λ f. refl; mothers = λ f. refl; queue = λ f. refl }))
   renewed o (Renews.bits p f ne e) =
-      let rs : Runs = set runs c (add (freshEntry r h) (erase p run)) in
+      let rs : Runs = set runs c (add (fresh_entry r h) (erase p run)) in
       subst Renewed (sym (ap (λ (o : Outcome). seen (left o)) e ∙ changed rs r.used r.queued queue (renewed-bits r main queue annex h runs v p f ne)))
       (inr (state (set runs c (erase p run)) Q, inl (take_out p f ne), put_back p f Q))
   renewed o (Renews.void-one p f q n1 n2 e) =
-      let rs : Runs = set runs c (add (freshEntry r h) (erase p run)) in
+      let rs : Runs = set runs c (add (fresh_entry r h) (erase p run)) in
       let queue' : List ℕ = set queue r.queued (c * 2 + 1) in
       subst Renewed (sym (ap (λ (o : Outcome). seen (left o)) e ∙ changed rs r.used (r.queued + 1) queue' (renewed-void r main queue annex h runs v p f q n1 n2)
       ∙ ap (state rs) (queue-more queue r.queued (c * 2 + 1) c n2 (omega arith))))

@@ -13,13 +13,13 @@ use borrow.Author.Tests.{lt-ltb, le-ltb}
 use Rattle.lists.specs.Lists.{sum}
 use Rattle.lists.specs.Runs.{Runs}
 use Rattle.lists.proofs.Sums.{sum-append}
-use Rattle.slots.specs.Payload.{void, rest_of, length_of, fingerprintOf}
+use Rattle.slots.specs.Payload.{void, rest_of, length_of, fingerprint_of}
 use Rattle.slots.proofs.PayloadLaws.{rest_le, bits-pay, shrink, void-rest}
-use Rattle.rules.specs.Doubling.{half, halfRun, doubled, becomeVoid, newHashes}
+use Rattle.rules.specs.Doubling.{half, half_run, doubled, become_void, new_hashes}
 use Rattle.keeps.proofs.Halves.{Kind, none_of, voided, other, mine, kind, fingerprint-lt, shrink-rest}
 use Rattle.keeps.proofs.Hashes.{become-cases}
 use Rattle.history.proofs.Strings.{Item}
-use Rattle.history.proofs.Bridge.{length_rest, entry, weight, load, weightless, tableItems, table-sum, table-append}
+use Rattle.history.proofs.Bridge.{length_rest, entry, weight, load, weightless, table_items, table-sum, table-append}
 use Rattle.history.proofs.Hashes.{item}
 
 -- the lowest bit of f goes to the address
@@ -35,11 +35,11 @@ halved : (l f : ℕ) → 0 < l → f < 2 ^ l → f / 2 < 2 ^ (l - 1)
 halved zero f h lt = absurd (omega arith)
 halved (suc l) f h lt = omega (arith, pow-suc 2 l, ap (λ x. 2 ^ x) (sub-one (suc l)))
 
-shrink-bits : (w v p : ℕ) → w ≤ v → 1 < rest_of w p → fingerprintOf v (shrink w v p) ≡ fingerprintOf w p / 2
+shrink-bits : (w v p : ℕ) → w ≤ v → 1 < rest_of w p → fingerprint_of v (shrink w v p) ≡ fingerprint_of w p / 2
 unfolding shrink
 shrink-bits w v p wv b =
     let l : length_of w p ≡ rest_of w p - 1 = length_rest w p in
-    bits-pay v (length_of w p - 1) (fingerprintOf w p / 2) (omega (arith, rest_le w p)) (halved (length_of w p) (fingerprintOf w p) (omega arith) (fingerprint-lt w p))
+    bits-pay v (length_of w p - 1) (fingerprint_of w p / 2) (omega (arith, rest_le w p)) (halved (length_of w p) (fingerprint_of w p) (omega arith) (fingerprint-lt w p))
 
 module _ (f : Item → ℕ) (w v k : ℕ) (wpos : 0 < w) (wv : w ≤ v) where
   -- what payload p weighs in the half with top bit t, at address a
@@ -67,7 +67,7 @@ module _ (f : Item → ℕ) (w v k : ℕ) (wpos : 0 < w) (wv : w ≤ v) where
       go (other b d e) = empty a (half w v t p) e
       go (mine b d e) = absurd (omega arith)
 
-  part-other : (t a p : ℕ) → 1 < rest_of w p → (fingerprintOf w p % 2 ≡ t → ⊥) → part t a p ≡ 0
+  part-other : (t a p : ℕ) → 1 < rest_of w p → (fingerprint_of w p % 2 ≡ t → ⊥) → part t a p ≡ 0
   part-other t a p lt ne = go (kind w v t p)
     where
       go : Kind w v t p → part t a p ≡ 0
@@ -76,7 +76,7 @@ module _ (f : Item → ℕ) (w v k : ℕ) (wpos : 0 < w) (wv : w ≤ v) where
       go (other b d e) = empty a (half w v t p) e
       go (mine b d e) = absurd (ne d)
 
-  part-mine : (t a p : ℕ) → 1 < rest_of w p → fingerprintOf w p % 2 ≡ t → part t a p ≡ weight f v (k + 1) a (shrink w v p)
+  part-mine : (t a p : ℕ) → 1 < rest_of w p → fingerprint_of w p % 2 ≡ t → part t a p ≡ weight f v (k + 1) a (shrink w v p)
   part-mine t a p lt ft = go (kind w v t p)
     where
       go : Kind w v t p → part t a p ≡ weight f v (k + 1) a (shrink w v p)
@@ -86,7 +86,7 @@ module _ (f : Item → ℕ) (w v k : ℕ) (wpos : 0 < w) (wv : w ≤ v) where
       go (mine b d e) = single a (shrink w v p) (half w v t p) e
 
   -- two bits or more: the string stays
-  part-long : (t c p : ℕ) → 2 < rest_of w p → fingerprintOf w p % 2 ≡ t → part t (t * 2 ^ k + c) p ≡ f (entry w k c p)
+  part-long : (t c p : ℕ) → 2 < rest_of w p → fingerprint_of w p % 2 ≡ t → part t (t * 2 ^ k + c) p ≡ f (entry w k c p)
   part-long t c p lt ft =
       let a : ℕ = t * 2 ^ k + c in
       let q : ℕ = shrink w v p in
@@ -94,32 +94,32 @@ module _ (f : Item → ℕ) (w v k : ℕ) (wpos : 0 < w) (wv : w ≤ v) where
       let sr : rest_of v q ≡ length_of w p = shrink-rest w v wpos wv p (omega arith) in
       let sl : length_of v q ≡ length_of w p - 1 = length_rest v q ∙ ap (λ n. n - 1) sr in
       let len : k + 1 + length_of v q ≡ k + length_of w p = omega arith in
-      let val : fingerprintOf v q * 2 ^ (k + 1) + a ≡ fingerprintOf w p * 2 ^ k + c =
-      ap (λ x. x * 2 ^ (k + 1) + a) (shrink-bits w v p wv (omega arith)) ∙ lowest (fingerprintOf w p) k t c ft in
+      let val : fingerprint_of v q * 2 ^ (k + 1) + a ≡ fingerprint_of w p * 2 ^ k + c =
+      ap (λ x. x * 2 ^ (k + 1) + a) (shrink-bits w v p wv (omega arith)) ∙ lowest (fingerprint_of w p) k t c ft in
       part-mine t a p (omega arith) ft
       ∙ ap (λ b. cond b (f (entry v (k + 1) a q)) 0) (lt-ltb 1 (rest_of v q) (omega arith))
       ∙ ap₂ (λ x y. f (record { len = x; val = y })) len val
 
   -- one bit: the entry becomes void
   part-last : (t a p : ℕ) → rest_of w p ≡ 2 → part t a p ≡ 0
-  part-last t a p e = go (ℕ_discrete (fingerprintOf w p % 2) t)
+  part-last t a p e = go (ℕ_discrete (fingerprint_of w p % 2) t)
     where
       l : length_of w p ≡ 1
       l = length_rest w p ∙ ap (λ n. n - 1) e
 
-      go : Dec (fingerprintOf w p % 2 ≡ t) → part t a p ≡ 0
+      go : Dec (fingerprint_of w p % 2 ≡ t) → part t a p ≡ 0
       go (no d) = part-other t a p (omega arith) d
       go (yes d) = part-mine t a p (omega arith) d ∙ weightless f v (k + 1) a (shrink w v p) (omega (arith, shrink-rest w v wpos wv p (omega arith), l))
 
   -- and its string is the new mother hash
-  last-string : (c p : ℕ) → rest_of w p ≡ 2 → f (entry w k c p) ≡ f (item (k + 1) (c + 2 ^ k * fingerprintOf w p))
+  last-string : (c p : ℕ) → rest_of w p ≡ 2 → f (entry w k c p) ≡ f (item (k + 1) (c + 2 ^ k * fingerprint_of w p))
   last-string c p e =
       let l : length_of w p ≡ 1 = length_rest w p ∙ ap (λ n. n - 1) e in
-      ap₂ (λ x y. f (record { len = x; val = y })) (ap (λ x. k + x) l) (ap (λ x. x + c) (mul_comm (fingerprintOf w p) (2 ^ k)) ∙ omega arith)
+      ap₂ (λ x y. f (record { len = x; val = y })) (ap (λ x. k + x) l) (ap (λ x. x + c) (mul_comm (fingerprint_of w p) (2 ^ k)) ∙ omega arith)
 
   -- both halves of an entry that keeps bits, or has none
   one_kept : (c p : ℕ) → (rest_of w p ≡ 2 → ⊥) → weight f w k c p ≡ part 0 c p + part 1 (2 ^ k + c) p
-  one_kept c p ne = go (dec_lt 1 (rest_of w p)) (ℕ_discrete (fingerprintOf w p % 2) 0)
+  one_kept c p ne = go (dec_lt 1 (rest_of w p)) (ℕ_discrete (fingerprint_of w p % 2) 0)
     where
       zero-c : part 0 (0 * 2 ^ k + c) p ≡ part 0 c p
       zero-c = let e : 0 * 2 ^ k + c ≡ c = omega arith in ap (λ x. part 0 x p) e
@@ -127,7 +127,7 @@ module _ (f : Item → ℕ) (w v k : ℕ) (wpos : 0 < w) (wv : w ≤ v) where
       one-c : part 1 (1 * 2 ^ k + c) p ≡ part 1 (2 ^ k + c) p
       one-c = let e : 1 * 2 ^ k + c ≡ 2 ^ k + c = omega arith in ap (λ x. part 1 x p) e
 
-      go : Dec (1 < rest_of w p) → Dec (fingerprintOf w p % 2 ≡ 0) → weight f w k c p ≡ part 0 c p + part 1 (2 ^ k + c) p
+      go : Dec (1 < rest_of w p) → Dec (fingerprint_of w p % 2 ≡ 0) → weight f w k c p ≡ part 0 c p + part 1 (2 ^ k + c) p
       go (no a) b = rw (le-ltb 1 (rest_of w p) (omega arith)) (omega (arith, part-void 0 c p (omega arith), part-void 1 (2 ^ k + c) p (omega arith)))
       go (yes a) (yes b) =
           rw (lt-ltb 1 (rest_of w p) a) (omega (arith, zero-c, part-long 0 c p (omega arith) b, part-other 1 (2 ^ k + c) p a (λ e. omega arith)))
@@ -135,15 +135,15 @@ module _ (f : Item → ℕ) (w v k : ℕ) (wpos : 0 < w) (wv : w ≤ v) where
           rw (lt-ltb 1 (rest_of w p) a) (omega (arith, one-c, part-other 0 c p a b, part-long 1 c p (omega arith) (omega arith)))
 
   run-split : (c : ℕ) (run : List ℕ)
-      → load f w k c run ≡ load f v (k + 1) c (halfRun w v 0 run) + load f v (k + 1) (2 ^ k + c) (halfRun w v 1 run) + new (becomeVoid w k c run)
-  unfolding halfRun sum
-  run-split c [] = unfold becomeVoid in refl
+      → load f w k c run ≡ load f v (k + 1) c (half_run w v 0 run) + load f v (k + 1) (2 ^ k + c) (half_run w v 1 run) + new (become_void w k c run)
+  unfolding half_run sum
+  run-split c [] = unfold become_void in refl
   run-split c (p ∷ run) =
       let rest = run-split c run in
-      let here = sum-append (weight f v (k + 1) c) (half w v 0 p) (halfRun w v 0 run) in
-      let there = sum-append (weight f v (k + 1) (2 ^ k + c)) (half w v 1 p) (halfRun w v 1 run) in
+      let here = sum-append (weight f v (k + 1) c) (half w v 0 p) (half_run w v 0 run) in
+      let there = sum-append (weight f v (k + 1) (2 ^ k + c)) (half w v 1 p) (half_run w v 1 run) in
       become-cases
-      (λ l. weight f w k c p + load f w k c run ≡ load f v (k + 1) c (half w v 0 p ++ halfRun w v 0 run) + load f v (k + 1) (2 ^ k + c) (half w v 1 p ++ halfRun w v 1 run) + new l)
+      (λ l. weight f w k c p + load f w k c run ≡ load f v (k + 1) c (half w v 0 p ++ half_run w v 0 run) + load f v (k + 1) (2 ^ k + c) (half w v 1 p ++ half_run w v 1 run) + new l)
       w k c p run
       (λ e. omega (
         arith,
@@ -158,33 +158,33 @@ module _ (f : Item → ℕ) (w v k : ℕ) (wpos : 0 < w) (wv : w ≤ v) where
       (λ e. omega (arith, here, there, rest, one_kept c p e))
 
   table-split : (c : ℕ) (rs : Runs)
-      → sum f (tableItems w k c rs)
-      ≡ sum f (tableItems v (k + 1) c (map (halfRun w v 0) rs)) + sum f (tableItems v (k + 1) (2 ^ k + c) (map (halfRun w v 1) rs)) + new (newHashes w k c rs)
-  unfolding newHashes sum
-  table-split c [] = unfold tableItems in refl
+      → sum f (table_items w k c rs)
+      ≡ sum f (table_items v (k + 1) c (map (half_run w v 0) rs)) + sum f (table_items v (k + 1) (2 ^ k + c) (map (half_run w v 1) rs)) + new (new_hashes w k c rs)
+  unfolding new_hashes sum
+  table-split c [] = unfold table_items in refl
   table-split c (r ∷ rs) =
       omega (
         arith,
         table-sum f w k c r rs,
-        table-sum f v (k + 1) c (halfRun w v 0 r) (map (halfRun w v 0) rs),
-        table-sum f v (k + 1) (2 ^ k + c) (halfRun w v 1 r) (map (halfRun w v 1) rs),
+        table-sum f v (k + 1) c (half_run w v 0 r) (map (half_run w v 0) rs),
+        table-sum f v (k + 1) (2 ^ k + c) (half_run w v 1 r) (map (half_run w v 1) rs),
         run-split c r,
         table-split (suc c) rs,
-        sum-append (λ m. f (item (k + 1) m)) (becomeVoid w k c r) (newHashes w k (suc c) rs),
-        ap (λ m. sum f (tableItems v (k + 1) m (map (halfRun w v 1) rs))) (add-suc (2 ^ k) c),
+        sum-append (λ m. f (item (k + 1) m)) (become_void w k c r) (new_hashes w k (suc c) rs),
+        ap (λ m. sum f (table_items v (k + 1) m (map (half_run w v 1) rs))) (add-suc (2 ^ k) c),
       )
 
   -- the doubled table and the new mother hashes have the strings of the table
   pub doubled-strings : (rs : Runs) → length rs ≡ 2 ^ k
-      → sum f (tableItems v (k + 1) 0 (doubled w v rs)) + sum (λ m. f (item (k + 1) m)) (newHashes w k 0 rs) ≡ sum f (tableItems w k 0 rs)
+      → sum f (table_items v (k + 1) 0 (doubled w v rs)) + sum (λ m. f (item (k + 1) m)) (new_hashes w k 0 rs) ≡ sum f (table_items w k 0 rs)
   unfolding doubled
   doubled-strings rs len =
       omega (
         arith,
-        table-append f v (k + 1) 0 (map (halfRun w v 0) rs) (map (halfRun w v 1) rs),
+        table-append f v (k + 1) 0 (map (half_run w v 0) rs) (map (half_run w v 1) rs),
         table-split 0 rs,
-        ap (λ m. sum f (tableItems v (k + 1) m (map (halfRun w v 1) rs))) start,
+        ap (λ m. sum f (table_items v (k + 1) m (map (half_run w v 1) rs))) start,
       )
     where
-      start : length (map (halfRun w v 0) rs) + 0 ≡ 2 ^ k + 0
-      start = omega (arith, length-map rs (halfRun w v 0))
+      start : length (map (half_run w v 0) rs) + 0 ≡ 2 ^ k + 0
+      start = omega (arith, length-map rs (half_run w v 0))

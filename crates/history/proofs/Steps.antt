@@ -14,10 +14,10 @@ use Rattle.lists.proofs.Alls.{All}
 use Rattle.lists.proofs.Sums.{Same}
 use Rattle.layout.specs.Decode.{decode}
 use Rattle.directory.specs.declared.Place.{Place}
-use Rattle.directory.specs.Places.{wordsTaken}
-use Rattle.rules.specs.Record.{Filter, width, inUse, annexUsed}
+use Rattle.directory.specs.Places.{words_taken}
+use Rattle.rules.specs.Record.{Filter, width, in_use, annex_used}
 use Rattle.rules.specs.Tables.{Table, tables}
-use Rattle.rules.specs.Sound.{tableRight, annexEntry, annexRight}
+use Rattle.rules.specs.Sound.{table_right, annex_entry, annex_right}
 use Rattle.rules.specs.Calls.{Outcome, started}
 use Rattle.keeps.proofs.State.{Good, Address, Fine, fine, good}
 use Rattle.keeps.proofs.Done.{insert-good, delete-good, rejuvenate-good}
@@ -26,20 +26,20 @@ use Rattle.keeps.proofs.Doubled.{double-good}
 use Rattle.keeps.proofs.Start.{start-done, started-fine, start-good}
 use Rattle.history.specs.History.{Call, Query, Insert, Delete, Rejuvenate, Audit, Settle, Double, Words, left, Started, Accepted, Lends}
 use Rattle.history.proofs.Abstract.{State, Fresh, Step, Inserted, Removed, Queued, Kept, Settled, Doubled}
-use Rattle.history.proofs.Bridge.{tableItems, no_items, view}
+use Rattle.history.proofs.Bridge.{table_items, no_items, view}
 use Rattle.history.proofs.Hashes.{mothers}
-use Rattle.history.proofs.Seen.{seenOf, seen, GoodWords, insert-step, delete-step, rejuvenate-step}
+use Rattle.history.proofs.Seen.{seen_of, seen, GoodWords, insert-step, delete-step, rejuvenate-step}
 use Rattle.history.proofs.Settles.{settle_step}
 use Rattle.history.proofs.Doubles.{double-step}
 
 -- ---- Start
 
 fresh-state : (power f regime : ℕ) (queue annex : List ℕ) → Fine (started power f regime) (replicate (2 ^ power) 0) queue annex (replicate (2 ^ power) [])
-    → Fresh (seenOf (started power f regime) (replicate (2 ^ power) 0) queue annex)
+    → Fresh (seen_of (started power f regime) (replicate (2 ^ power) 0) queue annex)
 fresh-state power f regime queue annex v =
     let r = started power f regime in
     record {
-      bits = ap (tableItems (width r) r.k 0) v.table.held ∙ no_items (width r) r.k 0 (2 ^ power);
+      bits = ap (table_items (width r) r.k 0) v.table.held ∙ no_items (width r) r.k 0 (2 ^ power);
       mothers = unfold started front tables mothers in refl;
       queue = unfold started in refl;
     }
@@ -97,24 +97,24 @@ as_long : (n : ℕ) (A B : List ℕ) → take n A ≡ take n B → n ≤ length 
 as_long n A B e h = omega (arith, length-take n A, ap length e, length-take-le n B h)
 
 -- what is read of the annex lies in its words in use
-pub tables-same : (ps : List Place) (A B : List ℕ) → take (wordsTaken ps) A ≡ take (wordsTaken ps) B → tables ps A ≡ tables ps B
-unfolding wordsTaken sum tables
+pub tables-same : (ps : List Place) (A B : List ℕ) → take (words_taken ps) A ≡ take (words_taken ps) B → tables ps A ≡ tables ps B
+unfolding words_taken sum tables
 tables-same [] A B e = refl
 tables-same (p ∷ ps) A B e =
-    ap₂ (λ (x : List ℕ) (l : List Table). record { b = p.b; s = p.s; runs = decode x } ∷ l) (first-same (2 ^ p.s) (wordsTaken ps) A B e)
-    (tables-same ps (drop (2 ^ p.s) A) (drop (2 ^ p.s) B) (rest-same (2 ^ p.s) (wordsTaken ps) A B e))
+    ap₂ (λ (x : List ℕ) (l : List Table). record { b = p.b; s = p.s; runs = decode x } ∷ l) (first-same (2 ^ p.s) (words_taken ps) A B e)
+    (tables-same ps (drop (2 ^ p.s) A) (drop (2 ^ p.s) B) (rest-same (2 ^ p.s) (words_taken ps) A B e))
 
-annex-same : (ps : List Place) (A B : List ℕ) → take (wordsTaken ps) A ≡ take (wordsTaken ps) B → annexRight ps A ≡ annexRight ps B
-unfolding wordsTaken sum annexRight
+annex-same : (ps : List Place) (A B : List ℕ) → take (words_taken ps) A ≡ take (words_taken ps) B → annex_right ps A ≡ annex_right ps B
+unfolding words_taken sum annex_right
 annex-same [] A B e = refl
 annex-same (p ∷ ps) A B e =
-    ap₂ (λ (x : List ℕ) (b : Bool). tableRight (annexEntry (p.b - p.s)) p.count x && b) (first-same (2 ^ p.s) (wordsTaken ps) A B e)
-    (annex-same ps (drop (2 ^ p.s) A) (drop (2 ^ p.s) B) (rest-same (2 ^ p.s) (wordsTaken ps) A B e))
+    ap₂ (λ (x : List ℕ) (b : Bool). table_right (annex_entry (p.b - p.s)) p.count x && b) (first-same (2 ^ p.s) (words_taken ps) A B e)
+    (annex-same ps (drop (2 ^ p.s) A) (drop (2 ^ p.s) B) (rest-same (2 ^ p.s) (words_taken ps) A B e))
 
 module _ (r : Filter) (main queue annex queue' annex' : List ℕ) (eq : take r.queued queue' ≡ take r.queued queue)
-    (ea : take (annexUsed r) annex' ≡ take (annexUsed r) annex) where
-  same_tables : tables (inUse r) annex' ≡ tables (inUse r) annex
-  same_tables = tables-same (inUse r) annex' annex ea
+    (ea : take (annex_used r) annex' ≡ take (annex_used r) annex) where
+  same_tables : tables (in_use r) annex' ≡ tables (in_use r) annex
+  same_tables = tables-same (in_use r) annex' annex ea
 
   lent-fine : Fine r main queue annex (decode main) → Fine r main queue' annex' (decode main)
   lent-fine v =
@@ -127,26 +127,26 @@ module _ (r : Filter) (main queue annex queue' annex' : List ℕ) (eq : take r.q
         queue_long = as_long r.queued queue' queue eq v.queue_long;
         places = v.places;
         zeros = v.zeros;
-        annex-long = as_long (annexUsed r) annex' annex ea v.annex-long;
-        annex-right = subst T (sym (annex-same (inUse r) annex' annex ea)) v.annex-right;
+        annex-long = as_long (annex_used r) annex' annex ea v.annex-long;
+        annex-right = subst T (sym (annex-same (in_use r) annex' annex ea)) v.annex-right;
         table = v.table;
         queue-right = subst (All (λ w. w / 2 < 2 ^ r.k)) (sym eq) v.queue-right;
         address = λ c h.
             subst (λ (ts : List Table). Address (width r) ts (take r.queued queue') c (get_or (decode main) c [])) (sym same_tables)
-            (subst (λ (ws : List ℕ). Address (width r) (tables (inUse r) annex) ws c (get_or (decode main) c [])) (sym eq) (v.address c h));
+            (subst (λ (ws : List ℕ). Address (width r) (tables (in_use r) annex) ws c (get_or (decode main) c [])) (sym eq) (v.address c h));
       }
 
   pub lent-good : Good r main queue annex → Good r main queue' annex'
   lent-good g = good r main queue' annex' (decode main) (lent-fine (fine r main queue annex g))
 
-  pub lent_seen : seenOf r main queue' annex' ≡ seenOf r main queue annex
+  pub lent_seen : seen_of r main queue' annex' ≡ seen_of r main queue annex
   lent_seen =
       ap₂ (λ (ts : List Table) (ws : List ℕ). view (width r) r.k (decode main) (mothers ts) (map (λ w. w / 2) ws)) same_tables eq
 
 pub lends : (s t : Words) → Lends s t → GoodWords s → GoodWords t × (seen t ≡ seen s)
 lends s t l g =
-    subst (λ (r : Filter). Good r t.main t.queue t.annex × (seenOf r t.main t.queue t.annex ≡ seen s)) (sym l.same-record)
-    (subst (λ (m : List ℕ). Good s.rec m t.queue t.annex × (seenOf s.rec m t.queue t.annex ≡ seen s)) (sym l.same-main) (
+    subst (λ (r : Filter). Good r t.main t.queue t.annex × (seen_of r t.main t.queue t.annex ≡ seen s)) (sym l.same-record)
+    (subst (λ (m : List ℕ). Good s.rec m t.queue t.annex × (seen_of s.rec m t.queue t.annex ≡ seen s)) (sym l.same-main) (
       lent-good s.rec s.main s.queue s.annex t.queue t.annex l.same_queue l.same-annex g,
       lent_seen s.rec s.main s.queue s.annex t.queue t.annex l.same_queue l.same-annex,
     ))

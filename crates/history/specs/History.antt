@@ -7,11 +7,11 @@ use Rattle.lists.specs.Lists.{bit, sum}
 use Rattle.lists.specs.Runs.{erase, count, total}
 use Rattle.slots.specs.Payload.{void, length_of}
 use Rattle.layout.specs.Decode.{decode}
-use Rattle.rules.specs.Record.{Filter, width, inUse, annexUsed}
-use Rattle.rules.specs.Tables.{Table, tables, mothersOf}
+use Rattle.rules.specs.Record.{Filter, width, in_use, annex_used}
+use Rattle.rules.specs.Tables.{Table, tables, mothers_of}
 use Rattle.rules.specs.Calls.{Outcome, start}
-use Rattle.rules.specs.Quick.{queryNumber, query, insert, delete, rejuvenate}
-use Rattle.rules.specs.Slow.{audit, settle, double, secondMain}
+use Rattle.rules.specs.Quick.{query_number, query, insert, delete, rejuvenate}
+use Rattle.rules.specs.Slow.{audit, settle, double, second_main}
 
 -- ---- calls, and the hashes that are held after them
 
@@ -100,14 +100,14 @@ pub record AcceptedDouble (s t : Words) : Type 0 where
   pub leaves : t
       ≡ record {
         rec = (double s.rec s.main s.queue s.annex (length second)).rec;
-        main = secondMain s.rec s.main s.queue s.annex second;
+        main = second_main s.rec s.main s.queue s.annex second;
         queue = (double s.rec s.main s.queue s.annex (length second)).queue;
         annex = (double s.rec s.main s.queue s.annex (length second)).annex;
       }
 
 -- an accepted call on the words s leaves the words t
 unfoldable pub Accepted : Call → Words → Words → Type 0
-Accepted (Query h) s t = (queryNumber s.rec s.main s.queue s.annex ≡ 0) × (t ≡ s)
+Accepted (Query h) s t = (query_number s.rec s.main s.queue s.annex ≡ 0) × (t ≡ s)
 Accepted (Insert h) s t = AcceptedBy (insert s.rec s.main s.queue s.annex h) t
 Accepted (Delete h) s t = AcceptedBy (delete s.rec s.main s.queue s.annex h) t
 Accepted (Rejuvenate h) s t = AcceptedBy (rejuvenate s.rec s.main s.queue s.annex h) t
@@ -120,7 +120,7 @@ pub record Lends (s t : Words) : Type 0 where
   pub same-record : t.rec ≡ s.rec
   pub same-main : t.main ≡ s.main
   pub same_queue : take s.rec.queued t.queue ≡ take s.rec.queued s.queue
-  pub same-annex : take (annexUsed s.rec) t.annex ≡ take (annexUsed s.rec) s.annex
+  pub same-annex : take (annex_used s.rec) t.annex ≡ take (annex_used s.rec) s.annex
 
 -- ---- histories: the calls, the last first, and the words after them
 
@@ -147,15 +147,15 @@ unfoldable pub with_bits : Words → ℕ
 with_bits s = sum (λ run. sum (λ p. bit (ltb 0 (length_of (width s.rec) p))) run) (decode s.main)
 
 -- "the stored mother hashes"
-unfoldable pub storedHashes : Words → ℕ
-storedHashes s = sum (λ (t : Table). total t.runs) (tables (inUse s.rec) s.annex)
+unfoldable pub stored_hashes : Words → ℕ
+stored_hashes s = sum (λ (t : Table). total t.runs) (tables (in_use s.rec) s.annex)
 
 -- "the entries with fingerprints plus the stored mother hashes, less the queued removals, number exactly the held hashes": also as a sum, which does not stop at 0
 pub record Exact (cs : List Call) (s : Words) : Type 0 where
-  pub less : with_bits s + storedHashes s - s.rec.queued ≡ length (held cs)
-  pub plus : with_bits s + storedHashes s ≡ length (held cs) + s.rec.queued
+  pub less : with_bits s + stored_hashes s - s.rec.queued ≡ length (held cs)
+  pub plus : with_bits s + stored_hashes s ≡ length (held cs) + s.rec.queued
 
 -- "each address holds as many void entries as stored mother hashes match it"
 unfoldable pub VoidsMatch : Words → Type 0
 VoidsMatch s =
-    (a : ℕ) → a < 2 ^ s.rec.k → count (void (width s.rec)) (get_or (decode s.main) a []) ≡ mothersOf a (tables (inUse s.rec) s.annex)
+    (a : ℕ) → a < 2 ^ s.rec.k → count (void (width s.rec)) (get_or (decode s.main) a []) ≡ mothers_of a (tables (in_use s.rec) s.annex)

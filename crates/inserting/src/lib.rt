@@ -1,7 +1,7 @@
 // An entry goes into a table of words, and each from there to the next empty slot moves one slot on. On any words the loop goes over the circle at most once.
 ghost use Rattle.std.specs.Prelude.{◌≡◌, ◌+◌, ◌*◌, ◌/◌, ◌%◌, ◌≤◌, ◌<◌, length};
 ghost use Rattle.layout.specs.Decode.{turn};
-ghost use Rattle.layout.specs.Moves.{going, insertAt};
+ghost use Rattle.layout.specs.Moves.{going, insert_at};
 
 // The word of an entry that has moved to the slot of word w.
 fn moved(hand: u32, w: u32) -> u32
@@ -59,7 +59,7 @@ fn marked(w: u32) -> u32
 // x goes into the run of c, k slots on from c, behind u entries of the run: o is 1 where the run has an entry, or else 0.
 pub fn put(ws: &mut [u32], c: usize, k: usize, u: usize, o: u32, x: u32)
     requires { (c < length ws.old) × (length ws.old ≤ 1048576) × (k < length ws.old) × (x < 536870912) }
-    ensures { turn c ws.new ≡ insertAt u o k x (turn c ws.old) }
+    ensures { turn c ws.new ≡ insert_at u o k x (turn c ws.old) }
 {
     let w = ws[c];
     if k == 0 {

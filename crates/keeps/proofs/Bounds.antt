@@ -16,9 +16,9 @@ use Rattle.lists.proofs.Alls.{All, all_map}
 use Rattle.slots.specs.Numbers.{limit}
 use Rattle.slots.proofs.NumberLaws.{limit-lt, extra-le, extra-mono}
 use Rattle.directory.specs.declared.Place.{Place}
-use Rattle.directory.specs.Places.{placesRight, wordsTaken}
-use Rattle.rules.specs.Record.{Filter, freshAt, width_at, fresh, width, inUse, annexUsed}
-use Rattle.rules.specs.Refusals.{settingsRight, recordRight}
+use Rattle.directory.specs.Places.{places_right, words_taken}
+use Rattle.rules.specs.Record.{Filter, fresh_at, width_at, fresh, width, in_use, annex_used}
+use Rattle.rules.specs.Refusals.{settings_right, record_right}
 use Rattle.keeps.proofs.State.{ranges}
 
 -- ---- the settings
@@ -30,8 +30,8 @@ pub record Sizes (start f regime : ℕ) : Type 0 where
   pub f-15 : f ≤ 15
   pub regime-1 : regime ≤ 1
 
-pub sizes : (start f regime : ℕ) → T (settingsRight start f regime) → Sizes start f regime
-unfolding settingsRight
+pub sizes : (start f regime : ℕ) → T (settings_right start f regime) → Sizes start f regime
+unfolding settings_right
 sizes start f regime t =
     let A = within 3 10 start in
     let B = within 3 15 f in
@@ -49,27 +49,27 @@ sizes start f regime t =
 
 -- ---- fresh length and width, in a table of 2^k slots
 
-pub width_is : (r : Filter) (k : ℕ) → width_at r k ≡ freshAt r k + 1
+pub width_is : (r : Filter) (k : ℕ) → width_at r k ≡ fresh_at r k + 1
 unfolding width_at
 width_is r k = omega arith
 
-pub width-fresh : (r : Filter) (k : ℕ) → freshAt r k < width_at r k
+pub width-fresh : (r : Filter) (k : ℕ) → fresh_at r k < width_at r k
 width-fresh r k = omega (arith, width_is r k)
 
 pub width-pos : (r : Filter) (k : ℕ) → 0 < width_at r k
 width-pos r k = omega (arith, width_is r k)
 
-pub fresh-3 : (r : Filter) (k : ℕ) → Sizes r.start r.f r.regime → 3 ≤ freshAt r k
-unfolding freshAt
+pub fresh-3 : (r : Filter) (k : ℕ) → Sizes r.start r.f r.regime → 3 ≤ fresh_at r k
+unfolding fresh_at
 fresh-3 r k z = omega arith
 
 pub width-26 : (r : Filter) (k : ℕ) → Sizes r.start r.f r.regime → k ≤ 20 → width_at r k ≤ 26
-unfolding freshAt width_at
+unfolding fresh_at width_at
 width-26 r k z h = omega (arith, extra-le r.regime (k - r.start) (omega arith))
 
 -- the width does not fall from one generation to the next
 pub width-rises : (r : Filter) (k : ℕ) → Sizes r.start r.f r.regime → r.start ≤ k → k < 20 → width_at r k ≤ width_at r (k + 1)
-unfolding freshAt width_at
+unfolding fresh_at width_at
 width-rises r k z l h =
     let e : k + 1 - r.start ≡ k - r.start + 1 = omega arith in
     rw e (omega (arith, extra-mono r.regime (k - r.start) (omega arith)))
@@ -84,13 +84,13 @@ pub record PlaceFine (k last : ℕ) (p : Place) : Type 0 where
   pub fits : p.count ≤ limit p.s
 
 -- the first of them, and the rest
-pub place-fine : (k last : ℕ) (p : Place) (ps : List Place) → T (placesRight k last (p ∷ ps)) → PlaceFine k last p × T (placesRight k p.b ps)
-unfolding placesRight
+pub place-fine : (k last : ℕ) (p : Place) (ps : List Place) → T (places_right k last (p ∷ ps)) → PlaceFine k last p × T (places_right k p.b ps)
+unfolding places_right
 place-fine k last p ps t =
     let A = within (last + 1) k p.b in
     let B = within 3 (p.b - 1) p.s in
     let C = leb p.count (limit p.s) in
-    let D = placesRight k p.b ps in
+    let D = places_right k p.b ps in
     let a = and_left A (B && (C && D)) t in
     let t1 = and_right A (B && (C && D)) t in
     let b = and_left B (C && D) t1 in
@@ -107,7 +107,7 @@ place-fine k last p ps t =
       and_right C D t2,
     )
 
-pub places-fine : (k last : ℕ) (ps : List Place) → T (placesRight k last ps) → All (PlaceFine k last) ps
+pub places-fine : (k last : ℕ) (ps : List Place) → T (places_right k last ps) → All (PlaceFine k last) ps
 places-fine k last [] t = tt
 places-fine k last (p ∷ ps) t =
     let f = place-fine k last p ps t in (
@@ -117,14 +117,14 @@ places-fine k last (p ∷ ps) t =
     )
 
 -- lengths rise, so there are few of them
-pub places-few : (k last : ℕ) (ps : List Place) → T (placesRight k last ps) → last ≤ k → length ps + last ≤ k
+pub places-few : (k last : ℕ) (ps : List Place) → T (places_right k last ps) → last ≤ k → length ps + last ≤ k
 places-few k last [] t h = omega arith
 places-few k last (p ∷ ps) t h =
     let f = place-fine k last p ps t in omega (arith, f.0.above, places-few k p.b ps f.1 f.0.short)
 
 -- and the tables, each of at most 2^(b-1) words, have at most 2^k in all
-pub words-few : (k last : ℕ) (ps : List Place) → T (placesRight k last ps) → last ≤ k → wordsTaken ps + 2 ^ last ≤ 2 ^ k
-unfolding wordsTaken sum
+pub words-few : (k last : ℕ) (ps : List Place) → T (places_right k last ps) → last ≤ k → words_taken ps + 2 ^ last ≤ 2 ^ k
+unfolding words_taken sum
 words-few k last [] t h = omega (arith, pow_mono {i = last} {j = k} h)
 words-few k last (p ∷ ps) t h =
     let f = place-fine k last p ps t in
@@ -151,12 +151,12 @@ pub record Bounds (r : Filter) : Type 0 where
   pub used-limit : r.used ≤ limit r.k
   pub limit-slots : limit r.k < 2 ^ r.k
   pub queued-small : r.queued ≤ 1048576
-  pub places : All (PlaceFine r.k 5) (inUse r)
-  pub places-15 : length (inUse r) ≤ 15
-  pub annex-slots : annexUsed r ≤ 2 ^ r.k
-  pub annex-small : annexUsed r ≤ 1048576
+  pub places : All (PlaceFine r.k 5) (in_use r)
+  pub places-15 : length (in_use r) ≤ 15
+  pub annex-slots : annex_used r ≤ 2 ^ r.k
+  pub annex-small : annex_used r ≤ 1048576
 
-pub bounds : (r : Filter) → T (recordRight r) → Bounds r
+pub bounds : (r : Filter) → T (record_right r) → Bounds r
 bounds r t =
     let v = ranges r t in
     let z = sizes r.start r.f r.regime v.settings in
@@ -178,16 +178,16 @@ bounds r t =
       used-limit = v.used-fits;
       limit-slots = limit-lt r.k;
       queued-small = v.queue-fits;
-      places = places-fine r.k 5 (inUse r) v.places;
+      places = places-fine r.k 5 (in_use r) v.places;
       places-15 = omega (arith, few.0, v.high-k);
       annex-slots = few.1;
       annex-small = omega (arith, few.1);
     }
   where
-    annex-few : T (placesRight r.k 5 (inUse r)) → (length (inUse r) ≤ r.k - 5) × (annexUsed r ≤ 2 ^ r.k)
-    annex-few t = go (inUse r) t (dec_le 5 r.k)
+    annex-few : T (places_right r.k 5 (in_use r)) → (length (in_use r) ≤ r.k - 5) × (annex_used r ≤ 2 ^ r.k)
+    annex-few t = go (in_use r) t (dec_le 5 r.k)
       where
-        go : (ps : List Place) → T (placesRight r.k 5 ps) → Dec (5 ≤ r.k) → (length ps ≤ r.k - 5) × (wordsTaken ps ≤ 2 ^ r.k)
+        go : (ps : List Place) → T (places_right r.k 5 ps) → Dec (5 ≤ r.k) → (length ps ≤ r.k - 5) × (words_taken ps ≤ 2 ^ r.k)
         go ps t (yes h) = (omega (arith, places-few r.k 5 ps t h), omega (arith, words-few r.k 5 ps t h))
-        go [] t (no h) = (omega arith, unfold wordsTaken sum in omega arith)
+        go [] t (no h) = (omega arith, unfold words_taken sum in omega arith)
         go (p ∷ ps) t (no h) = absurd (let f = place-fine r.k 5 p ps t in omega (arith, f.0.above, f.0.short))

@@ -11,13 +11,13 @@ use lib.Dec.{eqb}
 use lib.ListN.{length, get_or, length-map, get_or-map}
 use borrow.Author.Tests.{eq-eqb, ne_eqb}
 use Rattle.lists.specs.Lists.{sum}
-use Rattle.lists.specs.Runs.{Runs, erase, eraseAll, count, total}
+use Rattle.lists.specs.Runs.{Runs, erase, erase_all, count, total}
 use Rattle.lists.proofs.Tests.{eqb-cases, is, is-no}
-use Rattle.lists.proofs.Alls.{All, all-get, get-all, length-mapAt, getD-mapAt}
+use Rattle.lists.proofs.Alls.{All, all-get, get-all, length-map_at, get_or-map_at}
 use Rattle.lists.proofs.Sums.{same_length}
 use Rattle.lists.proofs.RunLaws.{Rises, count-sum, count_erase_self, erase_same, erase-none}
 use Rattle.slots.specs.Payload.{void}
-use Rattle.rules.specs.Settling.{takeVoids}
+use Rattle.rules.specs.Settling.{take_voids}
 
 -- ---- runs that change place by place
 
@@ -37,7 +37,7 @@ erase-short p run = go (ℕ_discrete (count p run) 0)
 
 -- ---- one void of some runs
 
--- what takeVoids does to the run of d
+-- what take_voids does to the run of d
 abbrev pub cut : ℕ → ℕ → ℕ → ℕ → List ℕ → List ℕ
 cut w c b d run = elim (not (eqb d c) && eqb (d % 2 ^ b) (c % 2 ^ b)) [ true ↦ erase (void w) run | false ↦ run ]
 
@@ -49,25 +49,25 @@ cut-is P w c b d run p q = go (not (eqb d c) && eqb (d % 2 ^ b) (c % 2 ^ b))
     go false = p
 
 module _ (w c b : ℕ) (runs : Runs) where
-  pub cut-length : length (takeVoids w c b runs) ≡ length runs
-  unfolding takeVoids
-  cut-length = length-mapAt (cut w c b) 0 runs
+  pub cut-length : length (take_voids w c b runs) ≡ length runs
+  unfolding take_voids
+  cut-length = length-map_at (cut w c b) 0 runs
 
-  pub cut_at : (d : ℕ) → d < length runs → get_or (takeVoids w c b runs) d [] ≡ cut w c b d (get_or runs d [])
-  unfolding takeVoids
-  cut_at d h = getD-mapAt (cut w c b) 0 runs d [] [] h ∙ ap (λ m. cut w c b m (get_or runs d [])) (zero-add d)
+  pub cut_at : (d : ℕ) → d < length runs → get_or (take_voids w c b runs) d [] ≡ cut w c b d (get_or runs d [])
+  unfolding take_voids
+  cut_at d h = get_or-map_at (cut w c b) 0 runs d [] [] h ∙ ap (λ m. cut w c b m (get_or runs d [])) (zero-add d)
 
-  pub cut_all : (P : List ℕ → Type 0) → ((run : List ℕ) → P run → P (erase (void w) run)) → All P runs → All P (takeVoids w c b runs)
+  pub cut_all : (P : List ℕ → Type 0) → ((run : List ℕ) → P run → P (erase (void w) run)) → All P runs → All P (take_voids w c b runs)
   cut_all P f a =
-      get-all P (takeVoids w c b runs) []
+      get-all P (take_voids w c b runs) []
       (λ d h.
       let l : d < length runs = omega (arith, cut-length) in
       let p = all-get P runs [] a d l in
       subst P (sym (cut_at d l)) (cut-is P w c b d (get_or runs d []) p (f (get_or runs d []) p)))
 
-  pub cut-total : total (takeVoids w c b runs) ≤ total runs
+  pub cut-total : total (take_voids w c b runs) ≤ total runs
   cut-total =
-      total-le runs (takeVoids w c b runs) cut-length
+      total-le runs (take_voids w c b runs) cut-length
       (λ j h. subst (λ (l : List ℕ). length l ≤ length (get_or runs j [])) (sym (cut_at j h))
       (cut-is (λ l. length l ≤ length (get_or runs j [])) w c b j (get_or runs j []) (omega arith) (erase-short (void w) (get_or runs j []))))
 
@@ -91,46 +91,46 @@ module _ (w c b d : ℕ) (run : List ℕ) where
 
 -- ---- all of one payload
 
-pub all-eraseAll : (P : ℕ → Type 0) (p : ℕ) (xs : List ℕ) → All P xs → All P (eraseAll p xs)
-unfolding eraseAll
-all-eraseAll P p [] a = tt
-all-eraseAll P p (x ∷ xs) a = eqb-cases (All P) p x (eraseAll p xs) (x ∷ eraseAll p xs) (λ _. all-eraseAll P p xs a.1) (λ _. (a.0, all-eraseAll P p xs a.1))
+pub all-erase_all : (P : ℕ → Type 0) (p : ℕ) (xs : List ℕ) → All P xs → All P (erase_all p xs)
+unfolding erase_all
+all-erase_all P p [] a = tt
+all-erase_all P p (x ∷ xs) a = eqb-cases (All P) p x (erase_all p xs) (x ∷ erase_all p xs) (λ _. all-erase_all P p xs a.1) (λ _. (a.0, all-erase_all P p xs a.1))
 
-pub rises-eraseAll : (p : ℕ) (xs : List ℕ) → Rises xs → Rises (eraseAll p xs)
-unfolding eraseAll Rises
-rises-eraseAll p [] r = tt
-rises-eraseAll p (x ∷ xs) r =
-    eqb-cases Rises p x (eraseAll p xs) (x ∷ eraseAll p xs) (λ _. rises-eraseAll p xs r.1) (λ _. (all-eraseAll (λ y. x ≤ y) p xs r.0, rises-eraseAll p xs r.1))
+pub rises-erase_all : (p : ℕ) (xs : List ℕ) → Rises xs → Rises (erase_all p xs)
+unfolding erase_all Rises
+rises-erase_all p [] r = tt
+rises-erase_all p (x ∷ xs) r =
+    eqb-cases Rises p x (erase_all p xs) (x ∷ erase_all p xs) (λ _. rises-erase_all p xs r.1) (λ _. (all-erase_all (λ y. x ≤ y) p xs r.0, rises-erase_all p xs r.1))
 
-pub eraseAll-sum : (f : ℕ → ℕ) (p : ℕ) (xs : List ℕ) → f p ≡ 0 → sum f (eraseAll p xs) ≡ sum f xs
-unfolding eraseAll sum
-eraseAll-sum f p [] e = refl
-eraseAll-sum f p (x ∷ xs) e =
-    eqb-cases (λ (l : List ℕ). sum f l ≡ f x + sum f xs) p x (eraseAll p xs) (x ∷ eraseAll p xs)
-    (λ q. omega (arith, eraseAll-sum f p xs e, ap f q)) (λ q. omega (arith, eraseAll-sum f p xs e))
+pub erase_all-sum : (f : ℕ → ℕ) (p : ℕ) (xs : List ℕ) → f p ≡ 0 → sum f (erase_all p xs) ≡ sum f xs
+unfolding erase_all sum
+erase_all-sum f p [] e = refl
+erase_all-sum f p (x ∷ xs) e =
+    eqb-cases (λ (l : List ℕ). sum f l ≡ f x + sum f xs) p x (erase_all p xs) (x ∷ erase_all p xs)
+    (λ q. omega (arith, erase_all-sum f p xs e, ap f q)) (λ q. omega (arith, erase_all-sum f p xs e))
 
-pub eraseAll-none : (p : ℕ) (xs : List ℕ) → count p (eraseAll p xs) ≡ 0
-unfolding eraseAll count
-eraseAll-none p [] = refl
-eraseAll-none p (x ∷ xs) =
-    eqb-cases (λ (l : List ℕ). count p l ≡ 0) p x (eraseAll p xs) (x ∷ eraseAll p xs)
-    (λ q. eraseAll-none p xs) (λ q. omega (arith, eraseAll-none p xs, is-no p x q))
+pub erase_all-none : (p : ℕ) (xs : List ℕ) → count p (erase_all p xs) ≡ 0
+unfolding erase_all count
+erase_all-none p [] = refl
+erase_all-none p (x ∷ xs) =
+    eqb-cases (λ (l : List ℕ). count p l ≡ 0) p x (erase_all p xs) (x ∷ erase_all p xs)
+    (λ q. erase_all-none p xs) (λ q. omega (arith, erase_all-none p xs, is-no p x q))
 
-pub eraseAll-other : (p q : ℕ) (xs : List ℕ) → (q ≡ p → ⊥) → count q (eraseAll p xs) ≡ count q xs
-eraseAll-other p q xs ne = count-sum q (eraseAll p xs) ∙ eraseAll-sum (is q) p xs (is-no q p ne) ∙ sym (count-sum q xs)
+pub erase_all-other : (p q : ℕ) (xs : List ℕ) → (q ≡ p → ⊥) → count q (erase_all p xs) ≡ count q xs
+erase_all-other p q xs ne = count-sum q (erase_all p xs) ∙ erase_all-sum (is q) p xs (is-no q p ne) ∙ sym (count-sum q xs)
 
-eraseAll-short : (p : ℕ) (xs : List ℕ) → length (eraseAll p xs) ≤ length xs
-unfolding eraseAll
-eraseAll-short p [] = omega arith
-eraseAll-short p (x ∷ xs) =
-    eqb-cases (λ (l : List ℕ). length l ≤ suc (length xs)) p x (eraseAll p xs) (x ∷ eraseAll p xs)
-    (λ q. omega (arith, eraseAll-short p xs)) (λ q. omega (arith, eraseAll-short p xs))
+erase_all-short : (p : ℕ) (xs : List ℕ) → length (erase_all p xs) ≤ length xs
+unfolding erase_all
+erase_all-short p [] = omega arith
+erase_all-short p (x ∷ xs) =
+    eqb-cases (λ (l : List ℕ). length l ≤ suc (length xs)) p x (erase_all p xs) (x ∷ erase_all p xs)
+    (λ q. omega (arith, erase_all-short p xs)) (λ q. omega (arith, erase_all-short p xs))
 
-pub getD-eraseAll : (p : ℕ) (rs : Runs) (c : ℕ) → get_or (map (eraseAll p) rs) c [] ≡ eraseAll p (get_or rs c [])
-unfolding eraseAll
-getD-eraseAll p rs c = get_or-map (eraseAll p) rs c []
+pub get_or-erase_all : (p : ℕ) (rs : Runs) (c : ℕ) → get_or (map (erase_all p) rs) c [] ≡ erase_all p (get_or rs c [])
+unfolding erase_all
+get_or-erase_all p rs c = get_or-map (erase_all p) rs c []
 
-pub total-eraseAll : (p : ℕ) (rs : Runs) → total (map (eraseAll p) rs) ≤ total rs
-total-eraseAll p rs =
-    total-le rs (map (eraseAll p) rs) (length-map rs (eraseAll p))
-    (λ j h. subst (λ (l : List ℕ). length l ≤ length (get_or rs j [])) (sym (getD-eraseAll p rs j)) (eraseAll-short p (get_or rs j [])))
+pub total-erase_all : (p : ℕ) (rs : Runs) → total (map (erase_all p) rs) ≤ total rs
+total-erase_all p rs =
+    total-le rs (map (erase_all p) rs) (length-map rs (erase_all p))
+    (λ j h. subst (λ (l : List ℕ). length l ≤ length (get_or rs j [])) (sym (get_or-erase_all p rs j)) (erase_all-short p (get_or rs j [])))

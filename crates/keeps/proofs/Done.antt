@@ -18,7 +18,7 @@ use Rattle.layout.specs.Machine.{layout}
 use Rattle.layout.specs.Decode.{decode}
 use Rattle.rules.specs.Record.{Filter, change, width, fresh}
 use Rattle.rules.specs.Calls.{Outcome, refused}
-use Rattle.rules.specs.Quick.{home, freshEntry, matchesIn, matched, best, bestIsVoid, queueFull, insertNumber, inserted, insert, takeNumber, deleted, delete, rejuvenated, rejuvenate}
+use Rattle.rules.specs.Quick.{home, fresh_entry, matches_in, matched, best, best_is_void, queue_full, insert_number, inserted, insert, take_number, deleted, delete, rejuvenated, rejuvenate}
 use Rattle.keeps.proofs.Refusals.{refusal-zero, asked-zero, given-done}
 use Rattle.keeps.proofs.State.{Good, Fine, fine, good}
 use Rattle.keeps.proofs.Quick.{GoodOutcome, insert-fine, Found, found, removed-fine, void-fine, renewed-bits, renewed-void}
@@ -56,9 +56,9 @@ module _ (r : Filter) (main queue annex : List ℕ) (h : ℕ) where
   -- what Rejuvenate leaves
   pub data Renews (o : Outcome) : Type 0 where
     kept : (p : ℕ) → Found r h p run_of → fresh r ≤ length_of (width r) p → o ≡ refused r main queue annex 0 → Renews o
-    bits : (p : ℕ) → Found r h p run_of → (p ≡ void (width r) → ⊥) → o ≡ run-changed (add (freshEntry r h) (erase p run_of)) r.used r.queued queue → Renews o
+    bits : (p : ℕ) → Found r h p run_of → (p ≡ void (width r) → ⊥) → o ≡ run-changed (add (fresh_entry r h) (erase p run_of)) r.used r.queued queue → Renews o
     void-one : (p : ℕ) → Found r h p run_of → p ≡ void (width r) → r.queued < 2 ^ 20 → r.queued < length queue
-        → o ≡ run-changed (add (freshEntry r h) (erase p run_of)) r.used (r.queued + 1) (set queue r.queued (home r h * 2 + 1)) → Renews o
+        → o ≡ run-changed (add (fresh_entry r h) (erase p run_of)) r.used (r.queued + 1) (set queue r.queued (home r h * 2 + 1)) → Renews o
 
   -- the cases of the definitions
   pub deleted-void : best r main h ≡ void (width r)
@@ -78,9 +78,9 @@ module _ (r : Filter) (main queue annex : List ℕ) (h : ℕ) where
 
   abbrev pub renewing : Bool → Outcome
   renewing b =
-      run-changed (add (freshEntry r h) (erase (best r main h) run_of)) r.used (r.queued + bit b) (elim b [ true ↦ set queue r.queued (home r h * 2 + 1) | false ↦ queue ])
+      run-changed (add (fresh_entry r h) (erase (best r main h) run_of)) r.used (r.queued + bit b) (elim b [ true ↦ set queue r.queued (home r h * 2 + 1) | false ↦ queue ])
 
-  pub renewed : length_of (width r) (best r main h) < fresh r → rejuvenated r main queue annex h ≡ renewing (bestIsVoid r main h)
+  pub renewed : length_of (width r) (best r main h) < fresh r → rejuvenated r main queue annex h ≡ renewing (best_is_void r main h)
   unfolding rejuvenated
   renewed l = rw (lt-ltb (length_of (width r) (best r main h)) (fresh r) l, rejuvenated)
 
@@ -92,10 +92,10 @@ module _ (r : Filter) (main queue annex : List ℕ) (h : ℕ) where
 
     pub insert-done : (insert r main queue annex h).number ≡ 0
         → (insert r main queue annex h ≡ inserted r main queue annex h)
-        × Fine (inserted r main queue annex h).rec (inserted r main queue annex h).main queue annex (set (decode main) (home r h) (add (freshEntry r h) run_of))
-    unfolding insert refused insertNumber
+        × Fine (inserted r main queue annex h).rec (inserted r main queue annex h).main queue annex (set (decode main) (home r h) (add (fresh_entry r h) run_of))
+    unfolding insert refused insert_number
     insert-done z =
-        let n = insertNumber r main queue annex in
+        let n = insert_number r main queue annex in
         let d = given-done n (inserted r main queue annex h) (refused r main queue annex n) refl z in
         let a = asked-zero r main queue annex _ d.0 in
         let b = refusal-zero (not (eqb r.used (limit r.k))) 4 [] a.2 in
@@ -111,23 +111,23 @@ module _ (r : Filter) (main queue annex : List ℕ) (h : ℕ) where
       pub its : Found r h p run_of
       pub room : p ≡ void (width r) → (r.queued < 2 ^ 20) × (r.queued < length queue)
 
-    pub taking : takeNumber r main queue annex h ≡ 0 → Taking (best r main h)
-    unfolding takeNumber
+    pub taking : take_number r main queue annex h ≡ 0 → Taking (best r main h)
+    unfolding take_number
     taking z =
         let a = asked-zero r main queue annex _ z in
         let b = refusal-zero (matched r main h) 5 _ a.2 in
-        let c = refusal-zero (not (bestIsVoid r main h && queueFull r queue)) 6 [] b.1 in
+        let c = refusal-zero (not (best_is_void r main h && queue_full r queue)) 6 [] b.1 in
         record {
-          its = found r main queue annex h (decode main) v (ltb→lt 0 (length (matchesIn r main h)) b.0);
+          its = found r main queue annex h (decode main) v (ltb→lt 0 (length (matches_in r main h)) b.0);
           room = λ e.
-              let n = neither (bestIsVoid r main h) (eqb r.queued (2 ^ 20)) (eqb r.queued (length queue)) c.0 (eq_test _ _ e) in
+              let n = neither (best_is_void r main h) (eqb r.queued (2 ^ 20)) (eqb r.queued (length queue)) c.0 (eq_test _ _ e) in
               (test-less r.queued (2 ^ 20) v.queue-fits n.0, test-less r.queued (length queue) v.queue_long n.1);
         }
 
     pub delete-done : (delete r main queue annex h).number ≡ 0 → Deletes (delete r main queue annex h)
     unfolding delete refused
     delete-done z =
-        let n = takeNumber r main queue annex h in
+        let n = take_number r main queue annex h in
         let d = given-done n (deleted r main queue annex h) (refused r main queue annex n) refl z in
         go (taking d.0) d.1 (ℕ_discrete (best r main h) (void (width r)))
       where
@@ -145,7 +145,7 @@ module _ (r : Filter) (main queue annex : List ℕ) (h : ℕ) where
     pub rejuvenate-done : (rejuvenate r main queue annex h).number ≡ 0 → Renews (rejuvenate r main queue annex h)
     unfolding rejuvenate refused
     rejuvenate-done z =
-        let n = takeNumber r main queue annex h in
+        let n = take_number r main queue annex h in
         let d = given-done n (rejuvenated r main queue annex h) (refused r main queue annex n) refl z in
         go (taking d.0) d.1 (dec_lt (length_of (width r) (best r main h)) (fresh r)) (ℕ_discrete (best r main h) (void (width r)))
       where
@@ -157,7 +157,7 @@ module _ (r : Filter) (main queue annex : List ℕ) (h : ℕ) where
         go t e (yes l) (no q) =
             bits (best r main h) t.its q
             (e ∙ renewed l ∙ ap renewing (ne_eqb (best r main h) (void (width r)) q)
-            ∙ ap (λ (n : ℕ). run-changed (add (freshEntry r h) (erase (best r main h) run_of)) r.used n queue) (add-zero r.queued))
+            ∙ ap (λ (n : ℕ). run-changed (add (fresh_entry r h) (erase (best r main h) run_of)) r.used n queue) (add-zero r.queued))
 
     pub renews-good : (o : Outcome) → Renews o → GoodOutcome o
     unfolding refused

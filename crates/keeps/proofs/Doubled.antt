@@ -15,19 +15,19 @@ use Rattle.lists.proofs.Alls.{All, all_map}
 use Rattle.layout.specs.Machine.{layout}
 use Rattle.layout.specs.Decode.{decode}
 use Rattle.directory.specs.declared.Place.{Place}
-use Rattle.directory.specs.Places.{noPlace, placesInUse, wordsTaken}
-use Rattle.rules.specs.Record.{Filter, change, width, inUse, annexUsed}
-use Rattle.rules.specs.Refusals.{recordRight, slicesRight}
-use Rattle.rules.specs.Tables.{Table, matching, mothersOf, tables, tableWords, place_of}
+use Rattle.directory.specs.Places.{no_place, places_in_use, words_taken}
+use Rattle.rules.specs.Record.{Filter, change, width, in_use, annex_used}
+use Rattle.rules.specs.Refusals.{record_right, slices_right}
+use Rattle.rules.specs.Tables.{Table, matching, mothers_of, tables, table_words, place_of}
 use Rattle.rules.specs.Sound.{sound}
-use Rattle.rules.specs.Doubling.{newHashes, size_for, table_of}
+use Rattle.rules.specs.Doubling.{new_hashes, size_for, table_of}
 use Rattle.rules.specs.Calls.{Outcome, refused}
-use Rattle.rules.specs.Slow.{hashes, room_for, doubleNumber, doubledRuns, secondMain, moreAnnex, moreDir, doubledOutcome, double}
+use Rattle.rules.specs.Slow.{hashes, room_for, double_number, doubled_runs, second_main, more_annex, more_dir, doubled_outcome, double}
 use Rattle.keeps.proofs.Refusals.{refusal-zero, given-done}
 use Rattle.keeps.proofs.Holds.{length-words}
 use Rattle.keeps.proofs.State.{Good, Fine, fine, good}
 use Rattle.keeps.proofs.Bounds.{sizes}
-use Rattle.keeps.proofs.Annex.{TableFine, Tables, written, words_append, tables_more, tables-snoc, in_use, zeros, fifteen-places}
+use Rattle.keeps.proofs.Annex.{TableFine, Tables, written, words_append, tables_more, tables-snoc, places_in_use-tables, zeros, fifteen-places}
 use Rattle.keeps.proofs.Mothers.{mothers-append}
 use Rattle.keeps.proofs.Parts.{Parts, parts-fine, tables-of}
 use Rattle.keeps.proofs.Hashes.{hashes-right, hashes-few}
@@ -38,16 +38,16 @@ use Rattle.keeps.proofs.Double.{from-tables}
 
 module _ (r : Filter) (annex : List ℕ) where
   -- the table of new mother hashes
-  abbrev pub newTable : List ℕ → Table
-  newTable ms = record { b = r.k + 1; s = size_for (length ms); runs = table_of (r.k + 1) (size_for (length ms)) ms }
+  abbrev pub new_table : List ℕ → Table
+  new_table ms = record { b = r.k + 1; s = size_for (length ms); runs = table_of (r.k + 1) (size_for (length ms)) ms }
 
-  abbrev pub tablesAfter : List ℕ → List Table
-  tablesAfter [] = tables (inUse r) annex
-  tablesAfter (m ∷ ms) = tables (inUse r) annex ++ newTable (m ∷ ms) ∷ []
+  abbrev pub tables_after : List ℕ → List Table
+  tables_after [] = tables (in_use r) annex
+  tables_after (m ∷ ms) = tables (in_use r) annex ++ new_table (m ∷ ms) ∷ []
 
-  abbrev pub restAfter : List ℕ → List ℕ
-  restAfter [] = drop (annexUsed r) annex
-  restAfter (m ∷ ms) = drop (annexUsed r + 2 ^ size_for (length (m ∷ ms))) annex
+  abbrev pub rest_after : List ℕ → List ℕ
+  rest_after [] = drop (annex_used r) annex
+  rest_after (m ∷ ms) = drop (annex_used r + 2 ^ size_for (length (m ∷ ms))) annex
 
 map_snoc : {A B : Type 0} (f : A → B) (l : List A) (x : A) → map f (l ++ x ∷ []) ≡ map f l ++ f x ∷ []
 map_snoc f [] x = refl
@@ -55,10 +55,10 @@ map_snoc f (y ∷ l) x = ap (λ (m : List _). f y ∷ m) (map_snoc f l x)
 
 module _ (r : Filter) (main queue annex : List ℕ) (v : Fine r main queue annex (decode main)) (k19 : r.k < 20) (empty : r.queued ≡ 0) where
   abbrev ts : List Table
-  ts = tables (inUse r) annex
+  ts = tables (in_use r) annex
 
   -- one table more
-  module _ (m : ℕ) (l : List ℕ) (e : newHashes (width r) r.k 0 (decode main) ≡ m ∷ l) where
+  module _ (m : ℕ) (l : List ℕ) (e : new_hashes (width r) r.k 0 (decode main) ≡ m ∷ l) where
     abbrev ms : List ℕ
     ms = m ∷ l
 
@@ -66,7 +66,7 @@ module _ (r : Filter) (main queue annex : List ℕ) (v : Fine r main queue annex
     s = size_for (length ms)
 
     abbrev t : Table
-    t = newTable r annex ms
+    t = new_table r annex ms
 
     right : All (λ m. (m < 2 ^ (r.k + 1)) × (6 ≤ r.k + 1)) ms
     right = subst (All (λ m. (m < 2 ^ (r.k + 1)) × (6 ≤ r.k + 1))) e (hashes-right (width r) r.k 0 (decode main) (omega (arith, v.table.size)) v.table.passes)
@@ -97,50 +97,50 @@ module _ (r : Filter) (main queue annex : List ℕ) (v : Fine r main queue annex
     pub after-fine : Tables (r.k + 1) 5 (ts ++ t ∷ [])
     after-fine = tables-snoc r.k (r.k + 1) 5 ts t (omega arith) (omega (arith, right.0.1)) (tables-of v).are new-fine
 
-    gains : (a : ℕ) → a < 2 ^ (r.k + 1) → mothersOf a (ts ++ t ∷ []) ≡ mothersOf a ts + count a (newHashes (width r) r.k 0 (decode main))
-    gains a h = mothers-append a ts (t ∷ []) ∙ ap (λ n. mothersOf a ts + n) (one a t ∙ holds.matched a h ∙ ap (count a) (sym e))
+    gains : (a : ℕ) → a < 2 ^ (r.k + 1) → mothers_of a (ts ++ t ∷ []) ≡ mothers_of a ts + count a (new_hashes (width r) r.k 0 (decode main))
+    gains a h = mothers-append a ts (t ∷ []) ∙ ap (λ n. mothers_of a ts + n) (one a t ∙ holds.matched a h ∙ ap (count a) (sym e))
       where
-        one : (a : ℕ) (t : Table) → mothersOf a (t ∷ []) ≡ matching a t
-        one a t = unfold mothersOf sum in omega arith
+        one : (a : ℕ) (t : Table) → mothers_of a (t ∷ []) ≡ matching a t
+        one a t = unfold mothers_of sum in omega arith
 
-    pub places : inUse r ++ (record { b = r.k + 1; s = s; count = length ms } ∷ []) ≡ map place_of (ts ++ t ∷ [])
+    pub places : in_use r ++ (record { b = r.k + 1; s = s; count = length ms } ∷ []) ≡ map place_of (ts ++ t ∷ [])
     unfolding place_of
     places = ap₂ (λ (x : List Place) (n : ℕ). x ++ (record { b = r.k + 1; s = s; count = n } ∷ [])) (sym (tables-of v).of) (sym holds.counted) ∙ sym (map_snoc place_of ts t)
 
-    pub words : take (annexUsed r) annex ++ layout (table_of (r.k + 1) s ms) ++ drop (annexUsed r + 2 ^ s) annex ≡ tableWords (ts ++ t ∷ []) ++ drop (annexUsed r + 2 ^ s) annex
-    words = ap (λ (x : List ℕ). x ++ drop (annexUsed r + 2 ^ s) annex) (ap₂ (λ (x y : List ℕ). x ++ y) front (sym (single t)) ∙ sym (words_append ts (t ∷ [])))
+    pub words : take (annex_used r) annex ++ layout (table_of (r.k + 1) s ms) ++ drop (annex_used r + 2 ^ s) annex ≡ table_words (ts ++ t ∷ []) ++ drop (annex_used r + 2 ^ s) annex
+    words = ap (λ (x : List ℕ). x ++ drop (annex_used r + 2 ^ s) annex) (ap₂ (λ (x y : List ℕ). x ++ y) front (sym (single t)) ∙ sym (words_append ts (t ∷ [])))
       where
-        single : (t : Table) → tableWords (t ∷ []) ≡ layout t.runs
-        single t = unfold tableWords in append-nil (layout t.runs)
+        single : (t : Table) → table_words (t ∷ []) ≡ layout t.runs
+        single t = unfold table_words in append-nil (layout t.runs)
 
-        long : length (tableWords ts) ≡ annexUsed r
-        long = (written r.k 5 ts [] (tables-of v).are).long ∙ ap wordsTaken (tables-of v).of
+        long : length (table_words ts) ≡ annex_used r
+        long = (written r.k 5 ts [] (tables-of v).are).long ∙ ap words_taken (tables-of v).of
 
-        front : take (annexUsed r) annex ≡ tableWords ts
-        front = ap (take (annexUsed r)) (tables-of v).words ∙ take_at (tableWords ts) (drop (annexUsed r) annex) (annexUsed r) long
+        front : take (annex_used r) annex ≡ table_words ts
+        front = ap (take (annex_used r)) (tables-of v).words ∙ take_at (table_words ts) (drop (annex_used r) annex) (annex_used r) long
 
-    pub more_parts : Parts (change r (r.k + 1) (total (doubledRuns r main queue annex)) 0 (moreDir r main queue annex ms)) (layout (doubledRuns r main queue annex)) queue
-        (moreAnnex r main queue annex ms) (restAfter r annex ms) (doubledRuns r main queue annex) (tablesAfter r annex ms)
-    unfolding moreDir moreAnnex
+    pub more_parts : Parts (change r (r.k + 1) (total (doubled_runs r main queue annex)) 0 (more_dir r main queue annex ms)) (layout (doubled_runs r main queue annex)) queue
+        (more_annex r main queue annex ms) (rest_after r annex ms) (doubled_runs r main queue annex) (tables_after r annex ms)
+    unfolding more_dir more_annex
     more_parts =
         let p : Place = record { b = r.k + 1; s = s; count = length ms } in
-        let n : ℕ = 15 - length (inUse r ++ p ∷ []) in
-        from-tables r main queue annex v k19 empty (ts ++ t ∷ []) (drop (annexUsed r + 2 ^ s) annex) (moreAnnex r main queue annex ms) (moreDir r main queue annex ms) after-fine gains
-        (ap (λ (x : List Place). placesInUse (x ++ replicate n noPlace)) places ∙ in_use (r.k + 1) 5 n (ts ++ t ∷ []) after-fine)
+        let n : ℕ = 15 - length (in_use r ++ p ∷ []) in
+        from-tables r main queue annex v k19 empty (ts ++ t ∷ []) (drop (annex_used r + 2 ^ s) annex) (more_annex r main queue annex ms) (more_dir r main queue annex ms) after-fine gains
+        (ap (λ (x : List Place). places_in_use (x ++ replicate n no_place)) places ∙ places_in_use-tables (r.k + 1) 5 n (ts ++ t ∷ []) after-fine)
         (rw places (zeros (r.k + 1) 5 (15 - length (map place_of (ts ++ t ∷ []))) (ts ++ t ∷ []) after-fine))
         words
 
-    pub more-places : length (moreDir r main queue annex ms) ≡ 15
-    unfolding moreDir
-    more-places = fifteen-places (r.k + 1) (inUse r ++ (record { b = r.k + 1; s = s; count = length ms } ∷ [])) (ts ++ t ∷ []) places after-fine (omega arith)
+    pub more-places : length (more_dir r main queue annex ms) ≡ 15
+    unfolding more_dir
+    more-places = fifteen-places (r.k + 1) (in_use r ++ (record { b = r.k + 1; s = s; count = length ms } ∷ [])) (ts ++ t ∷ []) places after-fine (omega arith)
 
-  pub doubled-parts : (ms : List ℕ) → newHashes (width r) r.k 0 (decode main) ≡ ms
-      → Parts (change r (r.k + 1) (total (doubledRuns r main queue annex)) 0 (moreDir r main queue annex ms)) (layout (doubledRuns r main queue annex)) queue (moreAnnex r main queue annex ms)
-      (restAfter r annex ms) (doubledRuns r main queue annex) (tablesAfter r annex ms)
-  unfolding moreDir moreAnnex
+  pub doubled-parts : (ms : List ℕ) → new_hashes (width r) r.k 0 (decode main) ≡ ms
+      → Parts (change r (r.k + 1) (total (doubled_runs r main queue annex)) 0 (more_dir r main queue annex ms)) (layout (doubled_runs r main queue annex)) queue (more_annex r main queue annex ms)
+      (rest_after r annex ms) (doubled_runs r main queue annex) (tables_after r annex ms)
+  unfolding more_dir more_annex
   doubled-parts [] e =
       let rd = tables-of v in
-      from-tables r main queue annex v k19 empty ts (drop (annexUsed r) annex) annex r.dir (tables_more r.k (r.k + 1) 5 ts (omega arith) rd.are)
+      from-tables r main queue annex v k19 empty ts (drop (annex_used r) annex) annex r.dir (tables_more r.k (r.k + 1) 5 ts (omega arith) rd.are)
       (λ a h. omega (arith, ap (count a) e, none a)) (sym rd.of) v.zeros rd.words
     where
       none : (a : ℕ) → count a [] ≡ 0
@@ -159,12 +159,12 @@ module _ (r : Filter) (main queue annex second : List ℕ) where
     pub room : T (room_for r main queue annex (hashes r main queue annex))
 
   -- by its number
-  pub number-had : doubleNumber r main queue annex (length second) ≡ 0 → DoubleHad
-  unfolding doubleNumber
+  pub number-had : double_number r main queue annex (length second) ≡ 0 → DoubleHad
+  unfolding double_number
   number-had z =
-      let A = slicesRight r (length main) (length queue) (length annex) in
+      let A = slices_right r (length main) (length queue) (length annex) in
       let B = eqb (length second) (2 ^ (r.k + 1)) in
-      let a = refusal-zero (recordRight r) 1 _ z in
+      let a = refusal-zero (record_right r) 1 _ z in
       let b = refusal-zero (not (eqb r.k 20)) 8 _ a.1 in
       let c = refusal-zero (A && B) 2 _ b.1 in
       let e = refusal-zero (sound r main queue annex) 3 _ c.1 in
@@ -187,45 +187,45 @@ module _ (r : Filter) (main queue annex second : List ℕ) where
           lower (no e) = omega arith
 
   pub double-done : (double r main queue annex (length second)).number ≡ 0
-      → (doubleNumber r main queue annex (length second) ≡ 0) × (double r main queue annex (length second) ≡ doubledOutcome r main queue annex)
+      → (double_number r main queue annex (length second) ≡ 0) × (double r main queue annex (length second) ≡ doubled_outcome r main queue annex)
   unfolding double refused
   double-done z =
-      let n = doubleNumber r main queue annex (length second) in
-      given-done n (doubledOutcome r main queue annex) (refused r main queue annex n) refl z
+      let n = double_number r main queue annex (length second) in
+      given-done n (doubled_outcome r main queue annex) (refused r main queue annex n) refl z
 
-  pub second_is : doubleNumber r main queue annex (length second) ≡ 0 → secondMain r main queue annex second ≡ layout (doubledRuns r main queue annex)
-  unfolding secondMain
-  second_is e = go (doubleNumber r main queue annex (length second)) e
+  pub second_is : double_number r main queue annex (length second) ≡ 0 → second_main r main queue annex second ≡ layout (doubled_runs r main queue annex)
+  unfolding second_main
+  second_is e = go (double_number r main queue annex (length second)) e
     where
-      go : (n : ℕ) → n ≡ 0 → ◌≡◌ {A = List ℕ} (elim n [ zero ↦ layout (doubledRuns r main queue annex) | suc n ↦ second ]) (layout (doubledRuns r main queue annex))
+      go : (n : ℕ) → n ≡ 0 → ◌≡◌ {A = List ℕ} (elim n [ zero ↦ layout (doubled_runs r main queue annex) | suc n ↦ second ]) (layout (doubled_runs r main queue annex))
       go zero e = refl
       go (suc n) e = absurd (omega arith)
 
   pub doubled-fine : DoubleHad
-      → Fine (doubledOutcome r main queue annex).rec (layout (doubledRuns r main queue annex)) queue (doubledOutcome r main queue annex).annex (doubledRuns r main queue annex)
-  unfolding doubledOutcome hashes
-  doubled-fine d = parts-fine (doubled-parts r main queue annex (fine r main queue annex d.state) d.less d.empty (newHashes (width r) r.k 0 (decode main)) refl)
+      → Fine (doubled_outcome r main queue annex).rec (layout (doubled_runs r main queue annex)) queue (doubled_outcome r main queue annex).annex (doubled_runs r main queue annex)
+  unfolding doubled_outcome hashes
+  doubled-fine d = parts-fine (doubled-parts r main queue annex (fine r main queue annex d.state) d.less d.empty (new_hashes (width r) r.k 0 (decode main)) refl)
 
-  pub length-second : DoubleHad → length (layout (doubledRuns r main queue annex)) ≡ 2 ^ (r.k + 1)
-  unfolding doubledOutcome change
+  pub length-second : DoubleHad → length (layout (doubled_runs r main queue annex)) ≡ 2 ^ (r.k + 1)
+  unfolding doubled_outcome change
   length-second d = length-words (doubled-fine d).table
 
-  pub doubled-places : DoubleHad → length r.dir ≡ 15 → length (doubledOutcome r main queue annex).rec.dir ≡ 15
-  unfolding doubledOutcome change hashes
-  doubled-places d h = go (newHashes (width r) r.k 0 (decode main)) refl
+  pub doubled-places : DoubleHad → length r.dir ≡ 15 → length (doubled_outcome r main queue annex).rec.dir ≡ 15
+  unfolding doubled_outcome change hashes
+  doubled-places d h = go (new_hashes (width r) r.k 0 (decode main)) refl
     where
-      go : (ms : List ℕ) → newHashes (width r) r.k 0 (decode main) ≡ ms → length (moreDir r main queue annex ms) ≡ 15
-      go [] e = unfold moreDir in h
+      go : (ms : List ℕ) → new_hashes (width r) r.k 0 (decode main) ≡ ms → length (more_dir r main queue annex ms) ≡ 15
+      go [] e = unfold more_dir in h
       go (m ∷ l) e = more-places r main queue annex (fine r main queue annex d.state) d.less d.empty m l e
 
   -- the second main is the main table afterwards
   pub double-good : (double r main queue annex (length second)).number ≡ 0
-      → Good (double r main queue annex (length second)).rec (secondMain r main queue annex second) (double r main queue annex (length second)).queue (double r main queue annex (length second)).annex
+      → Good (double r main queue annex (length second)).rec (second_main r main queue annex second) (double r main queue annex (length second)).queue (double r main queue annex (length second)).annex
   double-good zz =
       let d = double-done zz in
-      subst (λ (o : Outcome). Good o.rec (secondMain r main queue annex second) o.queue o.annex) (sym d.1)
-      (subst (λ (m : List ℕ). Good (doubledOutcome r main queue annex).rec m (doubledOutcome r main queue annex).queue (doubledOutcome r main queue annex).annex) (sym (second_is d.0))
+      subst (λ (o : Outcome). Good o.rec (second_main r main queue annex second) o.queue o.annex) (sym d.1)
+      (subst (λ (m : List ℕ). Good (doubled_outcome r main queue annex).rec m (doubled_outcome r main queue annex).queue (doubled_outcome r main queue annex).annex) (sym (second_is d.0))
       (at_last (number-had d.0)))
     where
-      at_last : DoubleHad → Good (doubledOutcome r main queue annex).rec (layout (doubledRuns r main queue annex)) (doubledOutcome r main queue annex).queue (doubledOutcome r main queue annex).annex
-      at_last d = unfold doubledOutcome in good _ _ _ _ _ (doubled-fine d)
+      at_last : DoubleHad → Good (doubled_outcome r main queue annex).rec (layout (doubled_runs r main queue annex)) (doubled_outcome r main queue annex).queue (doubled_outcome r main queue annex).annex
+      at_last d = unfold doubled_outcome in good _ _ _ _ _ (doubled-fine d)

@@ -16,9 +16,9 @@ use Rattle.slots.specs.Numbers.{limit}
 use Rattle.slots.specs.Payload.{void, tombstone}
 use Rattle.slots.proofs.NumberLaws.{limit-lt}
 use Rattle.layout.specs.Machine.{layout}
-use Rattle.rules.specs.Record.{Filter, change, width, freshAt, width_at, inUse}
-use Rattle.rules.specs.Tables.{tables, mothersOf}
-use Rattle.rules.specs.Sound.{mainEntry, naming}
+use Rattle.rules.specs.Record.{Filter, change, width, fresh_at, width_at, in_use}
+use Rattle.rules.specs.Tables.{tables, mothers_of}
+use Rattle.rules.specs.Sound.{main_entry, naming}
 use Rattle.keeps.proofs.Holds.{laid_out}
 use Rattle.keeps.proofs.State.{Address, Fine}
 
@@ -30,18 +30,18 @@ naming-append d (w ∷ ws) x = omega (arith, naming-append d ws x)
 
 module _ (r : Filter) (main queue annex : List ℕ) (runs : Runs) (v : Fine r main queue annex runs) (c : ℕ) (h : c < 2 ^ r.k) (run : List ℕ) (u : ℕ) where
   -- a queue of n words that count
-  pub edited : (n : ℕ) (queue' : List ℕ) → Rises run → All (λ p. T (mainEntry (width r) r.k p)) run
+  pub edited : (n : ℕ) (queue' : List ℕ) → Rises run → All (λ p. T (main_entry (width r) r.k p)) run
       → u + length (get_or runs c []) ≡ r.used + length run → u ≤ limit r.k
       → n ≤ 2 ^ 20 → n ≤ length queue' → All (λ w. w / 2 < 2 ^ r.k) (take n queue')
-      → Address (width r) (tables (inUse r) annex) (take n queue') c run
+      → Address (width r) (tables (in_use r) annex) (take n queue') c run
       → ((d : ℕ) → (d ≡ c → ⊥) → (count (d * 2) (take n queue') ≡ count (d * 2) (take r.queued queue)) × (naming d (take n queue') ≡ naming d (take r.queued queue)))
       → Fine (change r r.k u n r.dir) (layout (set runs c run)) queue' annex (set runs c run)
-  unfolding change freshAt width_at
+  unfolding change fresh_at width_at
   edited n queue' ri pa eu fu n1 n2 qr ad others =
       let lt : c < length runs = omega (arith, v.table.size) in
       let tot : total (set runs c run) ≡ u = omega (arith, total-set runs c run lt, v.table.counted) in
-      let t = laid_out (mainEntry (width r) r.k) r.k (set runs c run) (length-set runs c run ∙ v.table.size) (omega (arith, limit-lt r.k))
-      (all_set Rises runs c run v.table.rises ri) (all_set (All (λ p. T (mainEntry (width r) r.k p))) runs c run v.table.passes pa) in
+      let t = laid_out (main_entry (width r) r.k) r.k (set runs c run) (length-set runs c run ∙ v.table.size) (omega (arith, limit-lt r.k))
+      (all_set Rises runs c run v.table.rises ri) (all_set (All (λ p. T (main_entry (width r) r.k p))) runs c run v.table.passes pa) in
       record {
         settings = v.settings;
         low-k = v.low-k;
@@ -58,18 +58,18 @@ module _ (r : Filter) (main queue annex : List ℕ) (runs : Runs) (v : Fine r ma
         address = λ d hd. at d hd (ℕ_discrete d c);
       }
     where
-      at : (d : ℕ) → d < 2 ^ r.k → Dec (d ≡ c) → Address (width r) (tables (inUse r) annex) (take n queue') d (get_or (set runs c run) d [])
+      at : (d : ℕ) → d < 2 ^ r.k → Dec (d ≡ c) → Address (width r) (tables (in_use r) annex) (take n queue') d (get_or (set runs c run) d [])
       at d hd (yes e) =
-          subst (λ (x : ℕ). Address (width r) (tables (inUse r) annex) (take n queue') x (get_or (set runs c run) x [])) (sym e)
-          (subst (λ (l : List ℕ). Address (width r) (tables (inUse r) annex) (take n queue') c l) (sym (get_or-set_same runs c run [] (omega (arith, v.table.size)))) ad)
+          subst (λ (x : ℕ). Address (width r) (tables (in_use r) annex) (take n queue') x (get_or (set runs c run) x [])) (sym e)
+          (subst (λ (l : List ℕ). Address (width r) (tables (in_use r) annex) (take n queue') c l) (sym (get_or-set_same runs c run [] (omega (arith, v.table.size)))) ad)
       at d hd (no e) =
           let a = v.address d hd in
           let o = others d e in
-          subst (λ (l : List ℕ). Address (width r) (tables (inUse r) annex) (take n queue') d l) (sym (get_or-set_other runs c d run [] e))
-          (record { tombstones = a.tombstones ∙ sym o.0; voids = a.voids ∙ ap (λ m. mothersOf d (tables (inUse r) annex) - m) (sym o.1) })
+          subst (λ (l : List ℕ). Address (width r) (tables (in_use r) annex) (take n queue') d l) (sym (get_or-set_other runs c d run [] e))
+          (record { tombstones = a.tombstones ∙ sym o.0; voids = a.voids ∙ ap (λ m. mothers_of d (tables (in_use r) annex) - m) (sym o.1) })
 
   -- the queue as it was
-  pub edited-only : Rises run → All (λ p. T (mainEntry (width r) r.k p)) run
+  pub edited-only : Rises run → All (λ p. T (main_entry (width r) r.k p)) run
       → u + length (get_or runs c []) ≡ r.used + length run → u ≤ limit r.k
       → count (tombstone (width r)) run ≡ count (tombstone (width r)) (get_or runs c []) → count (void (width r)) run ≡ count (void (width r)) (get_or runs c [])
       → Fine (change r r.k u r.queued r.dir) (layout (set runs c run)) queue annex (set runs c run)
@@ -79,7 +79,7 @@ module _ (r : Filter) (main queue annex : List ℕ) (runs : Runs) (v : Fine r ma
       (record { tombstones = ct ∙ a.tombstones; voids = cv ∙ a.voids }) (λ d ne. (refl, refl))
 
   -- one word more, which names c
-  pub edited-queue : (x : ℕ) → x / 2 ≡ c → r.queued < 2 ^ 20 → r.queued < length queue → Rises run → All (λ p. T (mainEntry (width r) r.k p)) run
+  pub edited-queue : (x : ℕ) → x / 2 ≡ c → r.queued < 2 ^ 20 → r.queued < length queue → Rises run → All (λ p. T (main_entry (width r) r.k p)) run
       → u + length (get_or runs c []) ≡ r.used + length run → u ≤ limit r.k
       → count (tombstone (width r)) run ≡ count (tombstone (width r)) (get_or runs c []) + is (c * 2) x
       → count (void (width r)) run ≡ count (void (width r)) (get_or runs c []) - 1

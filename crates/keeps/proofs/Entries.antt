@@ -13,12 +13,12 @@ use Rattle.lists.proofs.Tests.{and_left, and_right, and_both, no_true, is-yes, i
 use Rattle.lists.proofs.Alls.{All, all_map}
 use Rattle.lists.proofs.RunLaws.{Rises}
 use Rattle.slots.specs.Payload.{rest_of, length_of}
-use Rattle.rules.specs.Sound.{mainEntry}
+use Rattle.rules.specs.Sound.{main_entry}
 
 -- ---- the test of a main entry
 
-pub passes : (w k p : ℕ) → p < 2 ^ w → (1 < rest_of w p → 6 ≤ k + length_of w p) → T (mainEntry w k p)
-unfolding mainEntry length_of
+pub passes : (w k p : ℕ) → p < 2 ^ w → (1 < rest_of w p → 6 ≤ k + length_of w p) → T (main_entry w k p)
+unfolding main_entry length_of
 passes w k p lt h =
     and_both (ltb p (2 ^ w)) (eqb (length_of w p) 0 || leb 6 (k + length_of w p)) (lt→ltb p (2 ^ w) lt) (go (ℕ_discrete (length_of w p) 0))
   where
@@ -26,12 +26,12 @@ passes w k p lt h =
     go (yes e) = rw (eq-eqb (length_of w p) 0 e) tt
     go (no e) = rw (ne_eqb (length_of w p) 0 e) (le→leb 6 (k + length_of w p) (h (omega arith)))
 
-pub passes-lt : (w k p : ℕ) → T (mainEntry w k p) → p < 2 ^ w
-unfolding mainEntry
+pub passes-lt : (w k p : ℕ) → T (main_entry w k p) → p < 2 ^ w
+unfolding main_entry
 passes-lt w k p t = ltb→lt p (2 ^ w) (and_left (ltb p (2 ^ w)) (eqb (length_of w p) 0 || leb 6 (k + length_of w p)) t)
 
-pub passes-6 : (w k p : ℕ) → T (mainEntry w k p) → 1 < rest_of w p → 6 ≤ k + length_of w p
-unfolding mainEntry length_of
+pub passes-6 : (w k p : ℕ) → T (main_entry w k p) → 1 < rest_of w p → 6 ≤ k + length_of w p
+unfolding main_entry length_of
 passes-6 w k p t l =
     leb→le 6 (k + length_of w p)
     (rw (ne_eqb (length_of w p) 0 (λ e. omega arith)) at (and_right (ltb p (2 ^ w)) (eqb (length_of w p) 0 || leb 6 (k + length_of w p)) t))

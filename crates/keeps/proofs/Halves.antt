@@ -15,10 +15,10 @@ use Rattle.lists.specs.Runs.{Runs, count, total}
 use Rattle.lists.proofs.Tests.{is-no}
 use Rattle.lists.proofs.Alls.{All}
 use Rattle.lists.proofs.RunLaws.{Rises, count-append}
-use Rattle.slots.specs.Payload.{pay, void, tombstone, rest_of, length_of, fingerprintOf}
+use Rattle.slots.specs.Payload.{pay, void, tombstone, rest_of, length_of, fingerprint_of}
 use Rattle.slots.proofs.PayloadLaws.{rest-pay, pay-lt, bits-pay, rest_le, rest-one, rising-rest, shrink, shrink-order, void-lt, void-rest, void-tombstone, tombstone-rest}
-use Rattle.rules.specs.Sound.{mainEntry}
-use Rattle.rules.specs.Doubling.{half, halfRun}
+use Rattle.rules.specs.Sound.{main_entry}
+use Rattle.rules.specs.Doubling.{half, half_run}
 use Rattle.keeps.proofs.Entries.{passes, passes-6}
 
 pub all_append : {A : Type 0} (P : A → Type 0) (l m : List A) → All P l → All P m → All P (l ++ m)
@@ -29,21 +29,21 @@ all_append P (x ∷ l) m a b = (a.0, all_append P l m a.1 b)
 pub data Kind (w v t p : ℕ) : Type 0 where
   none_of : rest_of w p ≡ 0 → half w v t p ≡ [] → Kind w v t p
   voided : rest_of w p ≡ 1 → half w v t p ≡ void v ∷ [] → Kind w v t p
-  other : 1 < rest_of w p → (fingerprintOf w p % 2 ≡ t → ⊥) → half w v t p ≡ [] → Kind w v t p
-  mine : 1 < rest_of w p → fingerprintOf w p % 2 ≡ t → half w v t p ≡ shrink w v p ∷ [] → Kind w v t p
+  other : 1 < rest_of w p → (fingerprint_of w p % 2 ≡ t → ⊥) → half w v t p ≡ [] → Kind w v t p
+  mine : 1 < rest_of w p → fingerprint_of w p % 2 ≡ t → half w v t p ≡ shrink w v p ∷ [] → Kind w v t p
 
 pub kind : (w v t p : ℕ) → Kind w v t p
 unfolding shrink half
-kind w v t p = go (rest_of w p) refl (ℕ_discrete (fingerprintOf w p % 2) t)
+kind w v t p = go (rest_of w p) refl (ℕ_discrete (fingerprint_of w p % 2) t)
   where
-    go : (n : ℕ) → rest_of w p ≡ n → Dec (fingerprintOf w p % 2 ≡ t) → Kind w v t p
+    go : (n : ℕ) → rest_of w p ≡ n → Dec (fingerprint_of w p % 2 ≡ t) → Kind w v t p
     go zero e d = none_of e (rw (e, half))
     go (suc zero) e d = voided e (rw (e, half))
-    go (suc (suc l)) e (yes d) = mine (omega arith) d (rw (e, half, eq-eqb (fingerprintOf w p % 2) t d) (ap (λ (m : ℕ). pay v m (fingerprintOf w p / 2) ∷ []) length-l))
+    go (suc (suc l)) e (yes d) = mine (omega arith) d (rw (e, half, eq-eqb (fingerprint_of w p % 2) t d) (ap (λ (m : ℕ). pay v m (fingerprint_of w p / 2) ∷ []) length-l))
       where
         length-l : l ≡ length_of w p - 1
         length-l = unfold length_of in omega arith
-    go (suc (suc l)) e (no d) = other (omega arith) d (rw (e, half, ne_eqb (fingerprintOf w p % 2) t d))
+    go (suc (suc l)) e (no d) = other (omega arith) d (rw (e, half, ne_eqb (fingerprint_of w p % 2) t d))
 
 pub half-one : (w v t p : ℕ) → length (half w v t p) ≤ 1
 half-one w v t p = go (kind w v t p)
@@ -54,22 +54,22 @@ half-one w v t p = go (kind w v t p)
     go (other a b e) = omega (arith, ap length e)
     go (mine a b e) = omega (arith, ap length e)
 
-pub half-fewer : (w v t : ℕ) (run : List ℕ) → length (halfRun w v t run) ≤ length run
-unfolding halfRun
+pub half-fewer : (w v t : ℕ) (run : List ℕ) → length (half_run w v t run) ≤ length run
+unfolding half_run
 half-fewer w v t [] = omega arith
-half-fewer w v t (p ∷ run) = omega (arith, length-append (half w v t p) (halfRun w v t run), half-one w v t p, half-fewer w v t run)
+half-fewer w v t (p ∷ run) = omega (arith, length-append (half w v t p) (half_run w v t run), half-one w v t p, half-fewer w v t run)
 
-pub total-half : (w v t : ℕ) (rs : Runs) → total (map (halfRun w v t) rs) ≤ total rs
+pub total-half : (w v t : ℕ) (rs : Runs) → total (map (half_run w v t) rs) ≤ total rs
 unfolding total
 total-half w v t [] = omega arith
 total-half w v t (r ∷ rs) = omega (arith, half-fewer w v t r, total-half w v t rs)
 
-pub getD-half : (w v t : ℕ) (rs : Runs) (c : ℕ) → get_or (map (halfRun w v t) rs) c [] ≡ halfRun w v t (get_or rs c [])
-unfolding halfRun
-getD-half w v t rs c = get_or-map (halfRun w v t) rs c []
+pub get_or-half : (w v t : ℕ) (rs : Runs) (c : ℕ) → get_or (map (half_run w v t) rs) c [] ≡ half_run w v t (get_or rs c [])
+unfolding half_run
+get_or-half w v t rs c = get_or-map (half_run w v t) rs c []
 
-pub fingerprint-lt : (w p : ℕ) → fingerprintOf w p < 2 ^ length_of w p
-unfolding fingerprintOf
+pub fingerprint-lt : (w p : ℕ) → fingerprint_of w p < 2 ^ length_of w p
+unfolding fingerprint_of
 fingerprint-lt w p = mod-lt p (pow_pos (length_of w p))
 
 -- ---- the entry that is left, at a width that is not smaller
@@ -87,19 +87,19 @@ module _ (w v : ℕ) (wpos : 0 < w) (wv : w ≤ v) where
   unfolding shrink
   shrink-rest p b =
       let pos : 0 < length_of w p = unfold length_of in omega arith in
-      rest-pay v (length_of w p - 1) (fingerprintOf w p / 2) (omega (arith, length-lt p)) (halved (length_of w p) (fingerprintOf w p) pos (fingerprint-lt w p)) ∙ omega arith
+      rest-pay v (length_of w p - 1) (fingerprint_of w p / 2) (omega (arith, length-lt p)) (halved (length_of w p) (fingerprint_of w p) pos (fingerprint-lt w p)) ∙ omega arith
 
   pub shrink-lt : (p : ℕ) → 1 < rest_of w p → shrink w v p < 2 ^ v
   unfolding shrink
   shrink-lt p b =
       let pos : 0 < length_of w p = unfold length_of in omega arith in
-      pay-lt v (length_of w p - 1) (fingerprintOf w p / 2) (omega (arith, length-lt p)) (halved (length_of w p) (fingerprintOf w p) pos (fingerprint-lt w p))
+      pay-lt v (length_of w p - 1) (fingerprint_of w p / 2) (omega (arith, length-lt p)) (halved (length_of w p) (fingerprint_of w p) pos (fingerprint-lt w p))
 
-  pub shrink-bits : (p : ℕ) → 1 < rest_of w p → fingerprintOf v (shrink w v p) ≡ fingerprintOf w p / 2
+  pub shrink-bits : (p : ℕ) → 1 < rest_of w p → fingerprint_of v (shrink w v p) ≡ fingerprint_of w p / 2
   unfolding shrink
   shrink-bits p b =
       let pos : 0 < length_of w p = unfold length_of in omega arith in
-      bits-pay v (length_of w p - 1) (fingerprintOf w p / 2) (omega (arith, length-lt p)) (halved (length_of w p) (fingerprintOf w p) pos (fingerprint-lt w p))
+      bits-pay v (length_of w p - 1) (fingerprint_of w p / 2) (omega (arith, length-lt p)) (halved (length_of w p) (fingerprint_of w p) pos (fingerprint-lt w p))
 
   vpos : 0 < v
   vpos = omega arith
@@ -116,10 +116,10 @@ module _ (w v : ℕ) (wpos : 0 < w) (wv : w ≤ v) where
       go (other b c e) = ap (count (tombstone v)) e
       go (mine b c e) = ap (count (tombstone v)) e ∙ omega (arith, is-no (tombstone v) (shrink w v p) (λ q. omega (arith, tombstone-rest v, shrink-rest p b, ap (rest_of v) q)))
 
-  pub half-tombstones : (t : ℕ) (run : List ℕ) → count (tombstone v) (halfRun w v t run) ≡ 0
-  unfolding halfRun count
+  pub half-tombstones : (t : ℕ) (run : List ℕ) → count (tombstone v) (half_run w v t run) ≡ 0
+  unfolding half_run count
   half-tombstones t [] = refl
-  half-tombstones t (p ∷ run) = omega (arith, count-append (tombstone v) (half w v t p) (halfRun w v t run), tombstones-one t p, half-tombstones t run)
+  half-tombstones t (p ∷ run) = omega (arith, count-append (tombstone v) (half w v t p) (half_run w v t run), tombstones-one t p, half-tombstones t run)
 
   -- ---- the order
 
@@ -160,7 +160,7 @@ module _ (w v : ℕ) (wpos : 0 < w) (wv : w ≤ v) where
         positive : (x : ℕ) → 1 < rest_of w x → 0 < length_of w x
         positive x h = unfold length_of in omega arith
 
-        order : Dec (p ≡ q) → 1 < rest_of w p → 1 < rest_of w q → fingerprintOf w p % 2 ≡ fingerprintOf w q % 2 → shrink w v p ≤ shrink w v q
+        order : Dec (p ≡ q) → 1 < rest_of w p → 1 < rest_of w q → fingerprint_of w p % 2 ≡ fingerprint_of w q % 2 → shrink w v p ≤ shrink w v q
         order (yes g) a c e = omega (arith, ap (shrink w v) g)
         order (no g) a c e =
             let s = shrink-order w v p q (no-tombstone p lp (omega arith)) (no-tombstone q lq (omega arith)) (omega (arith, length-lt p)) (omega arith) (positive q c) e in
@@ -178,8 +178,8 @@ module _ (w v : ℕ) (wpos : 0 < w) (wv : w ≤ v) where
         go (mine a b e) (voided c f) = pair (shrink w v p) (void v) e f (le-void (shrink w v p) (shrink-lt p a) (omega (arith, shrink-rest p a, positive p a)))
         go (mine a b e) (mine c d f) = pair (shrink w v p) (shrink w v q) e f (order (ℕ_discrete p q) a c (b ∙ sym d))
 
-    half-below : (p : ℕ) (run : List ℕ) → p < 2 ^ w → All (λ q. q < 2 ^ w) run → All (λ q. p ≤ q) run → Below (half w v t p) (halfRun w v t run)
-    unfolding halfRun
+    half-below : (p : ℕ) (run : List ℕ) → p < 2 ^ w → All (λ q. q < 2 ^ w) run → All (λ q. p ≤ q) run → Below (half w v t p) (half_run w v t run)
+    unfolding half_run
     half-below p [] lp a c = each (half w v t p)
       where
         each : (l : List ℕ) → All (λ x. All (λ y. x ≤ y) []) l
@@ -187,35 +187,35 @@ module _ (w v : ℕ) (wpos : 0 < w) (wv : w ≤ v) where
         each (x ∷ l) = (tt, each l)
     half-below p (q ∷ run) lp a c = join (half w v t p) (half_le p q lp a.0 c.0) (half-below p run lp a.1 c.1)
       where
-        join : (l : List ℕ) → Below l (half w v t q) → Below l (halfRun w v t run) → Below l (half w v t q ++ halfRun w v t run)
+        join : (l : List ℕ) → Below l (half w v t q) → Below l (half_run w v t run) → Below l (half w v t q ++ half_run w v t run)
         join [] m n = tt
-        join (x ∷ l) m n = (all_append (λ y. x ≤ y) (half w v t q) (halfRun w v t run) m.0 n.0, join l m.1 n.1)
+        join (x ∷ l) m n = (all_append (λ y. x ≤ y) (half w v t q) (half_run w v t run) m.0 n.0, join l m.1 n.1)
 
-    pub half-rises : (run : List ℕ) → All (λ p. p < 2 ^ w) run → Rises run → Rises (halfRun w v t run)
-    unfolding halfRun Rises
+    pub half-rises : (run : List ℕ) → All (λ p. p < 2 ^ w) run → Rises run → Rises (half_run w v t run)
+    unfolding half_run Rises
     half-rises [] a r = tt
     half-rises (p ∷ run) a r = cons (half w v t p) (half-one w v t p) (half-below p run a.0 a.1 r.0) (half-rises run a.1 r.1)
       where
-        cons : (l : List ℕ) → length l ≤ 1 → Below l (halfRun w v t run) → Rises (halfRun w v t run) → Rises (l ++ halfRun w v t run)
+        cons : (l : List ℕ) → length l ≤ 1 → Below l (half_run w v t run) → Rises (half_run w v t run) → Rises (l ++ half_run w v t run)
         cons [] s m ri = ri
         cons (x ∷ []) s m ri = (m.0, ri)
         cons (x ∷ y ∷ l) s m ri = absurd (omega arith)
 
     -- ---- its entries are as a main table's should be
 
-    passes-one : (k p : ℕ) → T (mainEntry w k p) → All (λ q. T (mainEntry v (k + 1) q)) (half w v t p)
+    passes-one : (k p : ℕ) → T (main_entry w k p) → All (λ q. T (main_entry v (k + 1) q)) (half w v t p)
     unfolding length_of
     passes-one k p m = go (kind w v t p)
       where
-        go : Kind w v t p → All (λ q. T (mainEntry v (k + 1) q)) (half w v t p)
-        go (none_of a e) = subst (All (λ q. T (mainEntry v (k + 1) q))) (sym e) tt
-        go (other a b e) = subst (All (λ q. T (mainEntry v (k + 1) q))) (sym e) tt
-        go (voided a e) = subst (All (λ q. T (mainEntry v (k + 1) q))) (sym e) (passes v (k + 1) (void v) (void-lt v vpos) (λ l. absurd (omega (arith, void-rest v vpos))), tt)
+        go : Kind w v t p → All (λ q. T (main_entry v (k + 1) q)) (half w v t p)
+        go (none_of a e) = subst (All (λ q. T (main_entry v (k + 1) q))) (sym e) tt
+        go (other a b e) = subst (All (λ q. T (main_entry v (k + 1) q))) (sym e) tt
+        go (voided a e) = subst (All (λ q. T (main_entry v (k + 1) q))) (sym e) (passes v (k + 1) (void v) (void-lt v vpos) (λ l. absurd (omega (arith, void-rest v vpos))), tt)
         go (mine a b e) =
-            subst (All (λ q. T (mainEntry v (k + 1) q))) (sym e)
+            subst (All (λ q. T (main_entry v (k + 1) q))) (sym e)
             (passes v (k + 1) (shrink w v p) (shrink-lt p a) (λ l. omega (arith, passes-6 w k p m a, shrink-rest p a)), tt)
 
-    pub half-passes : (k : ℕ) (run : List ℕ) → All (λ p. T (mainEntry w k p)) run → All (λ q. T (mainEntry v (k + 1) q)) (halfRun w v t run)
-    unfolding halfRun
+    pub half-passes : (k : ℕ) (run : List ℕ) → All (λ p. T (main_entry w k p)) run → All (λ q. T (main_entry v (k + 1) q)) (half_run w v t run)
+    unfolding half_run
     half-passes k [] a = tt
-    half-passes k (p ∷ run) a = all_append (λ q. T (mainEntry v (k + 1) q)) (half w v t p) (halfRun w v t run) (passes-one k p a.0) (half-passes k run a.1)
+    half-passes k (p ∷ run) a = all_append (λ q. T (main_entry v (k + 1) q)) (half w v t p) (half_run w v t run) (passes-one k p a.0) (half-passes k run a.1)

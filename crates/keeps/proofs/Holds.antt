@@ -12,10 +12,10 @@ use Rattle.lists.proofs.Tests.{and_left, and_right, and_both, same→eq, same_re
 use Rattle.lists.proofs.Alls.{All, every-all, all-every, all_map}
 use Rattle.lists.proofs.RunLaws.{Rises, rising-rises, rises-rising}
 use Rattle.layout.specs.Machine.{layout}
-use Rattle.layout.specs.Decode.{decode, run_at, runsFrom}
+use Rattle.layout.specs.Decode.{decode, run_at, runs_from}
 use Rattle.layout.proofs.Puts.{layout-length}
 use Rattle.layout.proofs.Round.{decode-layout, run-at}
-use Rattle.rules.specs.Sound.{laid, tableRight}
+use Rattle.rules.specs.Sound.{laid, table_right}
 
 -- the words are the layout of runs, each rising and of entries that pass the test, n in all
 pub record Holds (f : ℕ → Bool) (k n : ℕ) (words : List ℕ) (runs : Runs) : Type 0 where
@@ -27,8 +27,8 @@ pub record Holds (f : ℕ → Bool) (k n : ℕ) (words : List ℕ) (runs : Runs)
   pub counted : total runs ≡ n
   pub room : total runs < 2 ^ k
 
-length_from : (words : List ℕ) (c n : ℕ) → length (runsFrom words c n) ≡ n
-unfolding runsFrom
+length_from : (words : List ℕ) (c n : ℕ) → length (runs_from words c n) ≡ n
+unfolding runs_from
 length_from words c zero = refl
 length_from words c (suc n) = ap suc (length_from words (suc c) n)
 
@@ -45,8 +45,8 @@ pub laid_out : (f : ℕ → Bool) (k : ℕ) (runs : Runs) → length runs ≡ 2 
 laid_out f k runs len few ri pa =
     record { size = len; held = decode-layout runs (omega arith); laid = refl; rises = ri; passes = pa; counted = refl; room = few }
 
-pub holds-right : {f : ℕ → Bool} {k n : ℕ} {words : List ℕ} {runs : Runs} → Holds f k n words runs → T (tableRight f n words)
-unfolding tableRight laid
+pub holds-right : {f : ℕ → Bool} {k n : ℕ} {words : List ℕ} {runs : Runs} → Holds f k n words runs → T (table_right f n words)
+unfolding table_right laid
 holds-right {f} {k} {n} {words} {runs} t =
     rw t.held
     (and_both (every rising runs && same words (layout runs)) (every (every f) runs && eqb (total runs) n)
@@ -57,8 +57,8 @@ holds-right {f} {k} {n} {words} {runs} t =
     (all-every (every f) runs (all_map (All (λ p. T (f p))) (λ x. T (every f x)) (all-every f) runs t.passes))
     (subst (λ (m : ℕ). T (eqb (total runs) m)) t.counted (eqb_refl (total runs)))))
 
-pub right-holds : (f : ℕ → Bool) (k n : ℕ) (words : List ℕ) → length words ≡ 2 ^ k → n < 2 ^ k → T (tableRight f n words) → Holds f k n words (decode words)
-unfolding tableRight laid
+pub right-holds : (f : ℕ → Bool) (k n : ℕ) (words : List ℕ) → length words ≡ 2 ^ k → n < 2 ^ k → T (table_right f n words) → Holds f k n words (decode words)
+unfolding table_right laid
 right-holds f k n words len few t =
     let runs : Runs = decode words in
     let A = every rising runs in

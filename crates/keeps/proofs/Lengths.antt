@@ -15,14 +15,14 @@ use Rattle.slots.specs.Payload.{void, length_of}
 use Rattle.layout.specs.Machine.{layout}
 use Rattle.layout.specs.Decode.{decode}
 use Rattle.layout.proofs.Puts.{layout-length}
-use Rattle.directory.specs.Places.{wordsTaken}
-use Rattle.rules.specs.Record.{Filter, allZero, change, width, fresh, annexUsed}
-use Rattle.rules.specs.Tables.{Table, hashEntry, tableWords, place_of}
-use Rattle.rules.specs.Settling.{Held, longest, takeHash, settleFound, settleWord, settleAll}
+use Rattle.directory.specs.Places.{words_taken}
+use Rattle.rules.specs.Record.{Filter, all_zero, change, width, fresh, annex_used}
+use Rattle.rules.specs.Tables.{Table, hash_entry, table_words, place_of}
+use Rattle.rules.specs.Settling.{Held, longest, take_hash, settle_found, settle_word, settle_all}
 use Rattle.rules.specs.Doubling.{size_for, table_of}
-use Rattle.rules.specs.Calls.{Outcome, give, refused, startNumber, started, start}
-use Rattle.rules.specs.Quick.{home, insertNumber, inserted, insert, takeNumber, deleted, delete, rejuvenated, rejuvenate, bestIsVoid, best}
-use Rattle.rules.specs.Slow.{audit, heldAfter, settled, settle, hashes, room_for, doubleNumber, doubledRuns, secondMain, moreAnnex, doubledOutcome, double}
+use Rattle.rules.specs.Calls.{Outcome, give, refused, start_number, started, start}
+use Rattle.rules.specs.Quick.{home, insert_number, inserted, insert, take_number, deleted, delete, rejuvenated, rejuvenate, best_is_void, best}
+use Rattle.rules.specs.Slow.{audit, held_after, settled, settle, hashes, room_for, double_number, doubled_runs, second_main, more_annex, doubled_outcome, double}
 use Rattle.keeps.proofs.Refusals.{refusal-zero}
 use Rattle.keeps.proofs.Holds.{length-decode, length-words}
 use Rattle.keeps.proofs.State.{Good, fine}
@@ -57,9 +57,9 @@ module _ (r : Filter) (main queue annex : List ℕ) (h : ℕ) where
   pub insert-lengths : Lengths main queue annex (insert r main queue annex h)
   unfolding insert
   insert-lengths =
-      given-either (Lengths main queue annex) (insertNumber r main queue annex) (inserted r main queue annex h) (refused r main queue annex (insertNumber r main queue annex))
+      given-either (Lengths main queue annex) (insert_number r main queue annex) (inserted r main queue annex h) (refused r main queue annex (insert_number r main queue annex))
       (λ _. unfold inserted in record { main-kept = run_length main (home r h) _; queue-kept = refl; annex-kept = refl })
-      (refused-lengths r main queue annex (insertNumber r main queue annex))
+      (refused-lengths r main queue annex (insert_number r main queue annex))
 
   deleted-lengths : Lengths main queue annex (deleted r main queue annex h)
   deleted-lengths = go (ℕ_discrete (best r main h) (void (width r)))
@@ -74,8 +74,8 @@ module _ (r : Filter) (main queue annex : List ℕ) (h : ℕ) where
   pub delete-lengths : Lengths main queue annex (delete r main queue annex h)
   unfolding delete
   delete-lengths =
-      given-either (Lengths main queue annex) (takeNumber r main queue annex h) (deleted r main queue annex h) (refused r main queue annex (takeNumber r main queue annex h))
-      (λ _. deleted-lengths) (refused-lengths r main queue annex (takeNumber r main queue annex h))
+      given-either (Lengths main queue annex) (take_number r main queue annex h) (deleted r main queue annex h) (refused r main queue annex (take_number r main queue annex h))
+      (λ _. deleted-lengths) (refused-lengths r main queue annex (take_number r main queue annex h))
 
   rejuvenated-lengths : Lengths main queue annex (rejuvenated r main queue annex h)
   rejuvenated-lengths = go (dec_lt (length_of (width r) (best r main h)) (fresh r))
@@ -85,69 +85,69 @@ module _ (r : Filter) (main queue annex : List ℕ) (h : ℕ) where
       voids false = record { main-kept = run_length main (home r h) _; queue-kept = refl; annex-kept = refl }
 
       go : Dec (length_of (width r) (best r main h) < fresh r) → Lengths main queue annex (rejuvenated r main queue annex h)
-      go (yes l) = subst (Lengths main queue annex) (sym (renewed r main queue annex h l)) (voids (bestIsVoid r main h))
+      go (yes l) = subst (Lengths main queue annex) (sym (renewed r main queue annex h l)) (voids (best_is_void r main h))
       go (no l) = subst (Lengths main queue annex) (sym (renewed-kept r main queue annex h (omega arith))) (refused-lengths r main queue annex 0)
 
   pub rejuvenate-lengths : Lengths main queue annex (rejuvenate r main queue annex h)
   unfolding rejuvenate
   rejuvenate-lengths =
-      given-either (Lengths main queue annex) (takeNumber r main queue annex h) (rejuvenated r main queue annex h) (refused r main queue annex (takeNumber r main queue annex h))
-      (λ _. rejuvenated-lengths) (refused-lengths r main queue annex (takeNumber r main queue annex h))
+      given-either (Lengths main queue annex) (take_number r main queue annex h) (rejuvenated r main queue annex h) (refused r main queue annex (take_number r main queue annex h))
+      (λ _. rejuvenated-lengths) (refused-lengths r main queue annex (take_number r main queue annex h))
 
 -- ---- Start
 
 pub start-lengths : (power f regime : ℕ) (main queue annex : List ℕ) → Lengths main queue annex (start power f regime main queue annex)
 unfolding start
 start-lengths power f regime main queue annex =
-    let n = startNumber power f regime (length main) in
-    given-either (Lengths main queue annex) n (record { number = 0; rec = started power f regime; main = replicate (2 ^ power) 0; queue = queue; annex = annex }) (refused allZero main queue annex n)
+    let n = start_number power f regime (length main) in
+    given-either (Lengths main queue annex) n (record { number = 0; rec = started power f regime; main = replicate (2 ^ power) 0; queue = queue; annex = annex }) (refused all_zero main queue annex n)
     (λ e. record { main-kept = length-replicate (2 ^ power) 0 ∙ sym (right e); queue-kept = refl; annex-kept = refl })
-    (refused-lengths allZero main queue annex n)
+    (refused-lengths all_zero main queue annex n)
   where
-    right : startNumber power f regime (length main) ≡ 0 → length main ≡ 2 ^ power
-    right e = unfold startNumber in eqb→eq (length main) (2 ^ power) (refusal-zero _ 2 _ (refusal-zero _ 10 _ e).1).0
+    right : start_number power f regime (length main) ≡ 0 → length main ≡ 2 ^ power
+    right e = unfold start_number in eqb→eq (length main) (2 ^ power) (refusal-zero _ 2 _ (refusal-zero _ 10 _ e).1).0
 
 -- ---- Settle
 
-taken-used : (b c : ℕ) (ts : List Table) → wordsTaken (map place_of (takeHash b c ts)) ≡ wordsTaken (map place_of ts)
-unfolding takeHash place_of wordsTaken sum
+taken-used : (b c : ℕ) (ts : List Table) → words_taken (map place_of (take_hash b c ts)) ≡ words_taken (map place_of ts)
+unfolding take_hash place_of words_taken sum
 taken-used b c [] = refl
 taken-used b c (t ∷ ts) = go (eqb b t.b) (taken-used b c ts)
   where
-    go : (x : Bool) → wordsTaken (map place_of (takeHash b c ts)) ≡ wordsTaken (map place_of ts)
-        → wordsTaken (map place_of (elim x [
-          | true ↦ record { b = t.b; s = t.s; runs = at (c % 2 ^ t.s) (erase (hashEntry b t.s (c % 2 ^ b))) t.runs } ∷ ts
-          | false ↦ t ∷ takeHash b c ts
-        ])) ≡ 2 ^ t.s + wordsTaken (map place_of ts)
+    go : (x : Bool) → words_taken (map place_of (take_hash b c ts)) ≡ words_taken (map place_of ts)
+        → words_taken (map place_of (elim x [
+          | true ↦ record { b = t.b; s = t.s; runs = at (c % 2 ^ t.s) (erase (hash_entry b t.s (c % 2 ^ b))) t.runs } ∷ ts
+          | false ↦ t ∷ take_hash b c ts
+        ])) ≡ 2 ^ t.s + words_taken (map place_of ts)
     go true e = refl
     go false e = ap (λ n. 2 ^ t.s + n) e
 
-settled-used : (w : ℕ) (ws : List ℕ) (x : Held) → wordsTaken (map place_of (settleAll w ws x).annex) ≡ wordsTaken (map place_of x.annex)
-unfolding settleAll settleWord
+settled-used : (w : ℕ) (ws : List ℕ) (x : Held) → words_taken (map place_of (settle_all w ws x).annex) ≡ words_taken (map place_of x.annex)
+unfolding settle_all settle_word
 settled-used w [] x = refl
-settled-used w (q ∷ ws) x = settled-used w ws (settleWord w (q / 2) x) ∙ go (longest (q / 2) x.annex)
+settled-used w (q ∷ ws) x = settled-used w ws (settle_word w (q / 2) x) ∙ go (longest (q / 2) x.annex)
   where
-    go : (n : ℕ) → wordsTaken (map place_of (settleFound w (q / 2) n x).annex) ≡ wordsTaken (map place_of x.annex)
-    go zero = unfold settleFound in refl
-    go (suc b) = unfold settleFound in taken-used (suc b) (q / 2) x.annex
+    go : (n : ℕ) → words_taken (map place_of (settle_found w (q / 2) n x).annex) ≡ words_taken (map place_of x.annex)
+    go zero = unfold settle_found in refl
+    go (suc b) = unfold settle_found in taken-used (suc b) (q / 2) x.annex
 
 module _ (r : Filter) (main queue annex : List ℕ) where
-  settled-lengths : Good r main queue annex → Lengths main queue annex (settled r main queue annex (heldAfter r main queue annex))
-  unfolding heldAfter settled change
+  settled-lengths : Good r main queue annex → Lengths main queue annex (settled r main queue annex (held_after r main queue annex))
+  unfolding held_after settled change
   settled-lengths g =
       let v = fine r main queue annex g in
       let x = last r main queue annex g in
-      let used : length (tableWords x.annex) ≡ annexUsed r =
+      let used : length (table_words x.annex) ≡ annex_used r =
       (written r.k 5 x.annex [] (all_done r main queue annex g).are).long ∙ settled-used (width r) (take r.queued queue) (first r main queue annex)
-      ∙ ap wordsTaken (tables-of v).of in
-      let many : length (tableWords x.annex ++ drop (annexUsed r) annex) ≡ length annex =
-      length-append (tableWords x.annex) (drop (annexUsed r) annex) ∙ omega (arith, used, length-drop (annexUsed r) annex, v.annex-long) in
+      ∙ ap words_taken (tables-of v).of in
+      let many : length (table_words x.annex ++ drop (annex_used r) annex) ≡ length annex =
+      length-append (table_words x.annex) (drop (annex_used r) annex) ∙ omega (arith, used, length-drop (annex_used r) annex, v.annex-long) in
       record { main-kept = length-words (settled-fine r main queue annex g).table ∙ sym (length-words v.table); queue-kept = refl; annex-kept = many }
 
   pub settle-lengths : Lengths main queue annex (settle r main queue annex)
   unfolding settle
   settle-lengths =
-      given-either (Lengths main queue annex) (audit r main queue annex) (settled r main queue annex (heldAfter r main queue annex)) (refused r main queue annex (audit r main queue annex))
+      given-either (Lengths main queue annex) (audit r main queue annex) (settled r main queue annex (held_after r main queue annex)) (refused r main queue annex (audit r main queue annex))
       (λ e. settled-lengths (audit-good r main queue annex e)) (refused-lengths r main queue annex (audit r main queue annex))
 
 -- ---- Double
@@ -163,48 +163,48 @@ or_right false b t n = t
 
 module _ (r : Filter) (main queue annex : List ℕ) where
   -- number 10 does not hold: the new table fits
-  pub room_fits : (m : ℕ) (l : List ℕ) → T (room_for r main queue annex (m ∷ l)) → annexUsed r + 2 ^ size_for (length (m ∷ l)) ≤ length annex
+  pub room_fits : (m : ℕ) (l : List ℕ) → T (room_for r main queue annex (m ∷ l)) → annex_used r + 2 ^ size_for (length (m ∷ l)) ≤ length annex
   unfolding room_for
   room_fits m l t =
-      leb→le _ _ (or_right (eqb (length (m ∷ l)) 0) (leb (annexUsed r + 2 ^ size_for (length (m ∷ l))) (length annex)) t (λ e. absurd (omega (arith, eqb→eq (length (m ∷ l)) 0 e))))
+      leb→le _ _ (or_right (eqb (length (m ∷ l)) 0) (leb (annex_used r + 2 ^ size_for (length (m ∷ l))) (length annex)) t (λ e. absurd (omega (arith, eqb→eq (length (m ∷ l)) 0 e))))
 
-  pub annex-length : (ms : List ℕ) → annexUsed r ≤ length annex → T (room_for r main queue annex ms) → length (moreAnnex r main queue annex ms) ≡ length annex
-  unfolding moreAnnex
+  pub annex-length : (ms : List ℕ) → annex_used r ≤ length annex → T (room_for r main queue annex ms) → length (more_annex r main queue annex ms) ≡ length annex
+  unfolding more_annex
   annex-length [] h room = refl
   annex-length (m ∷ ms) h room =
       let s = size_for (length (m ∷ ms)) in
       omega (
         arith,
         room_fits m ms room,
-        length-append (take (annexUsed r) annex ++ layout (table_of (r.k + 1) s (m ∷ ms))) (drop (annexUsed r + 2 ^ s) annex),
-        length-append (take (annexUsed r) annex) (layout (table_of (r.k + 1) s (m ∷ ms))),
-        length-take-le (annexUsed r) annex h,
+        length-append (take (annex_used r) annex ++ layout (table_of (r.k + 1) s (m ∷ ms))) (drop (annex_used r + 2 ^ s) annex),
+        length-append (take (annex_used r) annex) (layout (table_of (r.k + 1) s (m ∷ ms))),
+        length-take-le (annex_used r) annex h,
         layout-length (table_of (r.k + 1) s (m ∷ ms)),
         table-length (r.k + 1) s (m ∷ ms),
-        length-drop (annexUsed r + 2 ^ s) annex,
+        length-drop (annex_used r + 2 ^ s) annex,
       )
 
   pub double-lengths : (second : List ℕ) → Lengths main queue annex (double r main queue annex (length second))
   unfolding double
   double-lengths second =
-      let n = doubleNumber r main queue annex (length second) in
-      given-either (Lengths main queue annex) n (doubledOutcome r main queue annex) (refused r main queue annex n)
+      let n = double_number r main queue annex (length second) in
+      given-either (Lengths main queue annex) n (doubled_outcome r main queue annex) (refused r main queue annex n)
       (λ e. accepted (number-had r main queue annex second e)) (refused-lengths r main queue annex n)
     where
-      accepted : DoubleHad r main queue annex second → Lengths main queue annex (doubledOutcome r main queue annex)
+      accepted : DoubleHad r main queue annex second → Lengths main queue annex (doubled_outcome r main queue annex)
       accepted d =
-          unfold doubledOutcome in
+          unfold doubled_outcome in
           record { main-kept = refl; queue-kept = refl; annex-kept = annex-length (hashes r main queue annex) (fine r main queue annex d.state).annex-long d.room }
 
-  pub second-length : (second : List ℕ) → length (secondMain r main queue annex second) ≡ length second
-  unfolding secondMain
-  second-length second = go (doubleNumber r main queue annex (length second)) (λ e. number-had r main queue annex second e)
+  pub second-length : (second : List ℕ) → length (second_main r main queue annex second) ≡ length second
+  unfolding second_main
+  second-length second = go (double_number r main queue annex (length second)) (λ e. number-had r main queue annex second e)
     where
-      go : (n : ℕ) → (n ≡ 0 → DoubleHad r main queue annex second) → length {A = ℕ} (elim n [ zero ↦ layout (doubledRuns r main queue annex) | suc n ↦ second ]) ≡ length second
+      go : (n : ℕ) → (n ≡ 0 → DoubleHad r main queue annex second) → length {A = ℕ} (elim n [ zero ↦ layout (doubled_runs r main queue annex) | suc n ↦ second ]) ≡ length second
       go (suc n) f = refl
       go zero f =
           let d = f refl in
-          let l : length (layout (doubledRuns r main queue annex)) ≡ 2 ^ (r.k + 1) = length-second r main queue annex second d in
+          let l : length (layout (doubled_runs r main queue annex)) ≡ 2 ^ (r.k + 1) = length-second r main queue annex second d in
           l ∙ sym d.long
 
 -- ---- the directory
@@ -214,12 +214,12 @@ module _ (r : Filter) (main queue annex : List ℕ) (h : length r.dir ≡ 15) wh
   unfolding settle refused
   settle-places =
       let n = audit r main queue annex in
-      given-either (λ o. length o.rec.dir ≡ 15) n (settled r main queue annex (heldAfter r main queue annex)) (refused r main queue annex n)
+      given-either (λ o. length o.rec.dir ≡ 15) n (settled r main queue annex (held_after r main queue annex)) (refused r main queue annex n)
       (λ e. settled-places r main queue annex (audit-good r main queue annex e)) h
 
   pub double-places : (second : List ℕ) → length (double r main queue annex (length second)).rec.dir ≡ 15
   unfolding double refused
   double-places second =
-      let n = doubleNumber r main queue annex (length second) in
-      given-either (λ o. length o.rec.dir ≡ 15) n (doubledOutcome r main queue annex) (refused r main queue annex n)
+      let n = double_number r main queue annex (length second) in
+      given-either (λ o. length o.rec.dir ≡ 15) n (doubled_outcome r main queue annex) (refused r main queue annex n)
       (λ e. doubled-places r main queue annex second (number-had r main queue annex second e) h) h

@@ -15,7 +15,7 @@ use Rattle.lists.proofs.Tests.{is, is-yes, is-no}
 use Rattle.lists.proofs.Sums.{sum-append}
 use Rattle.lists.proofs.RunLaws.{count_add, count-erase}
 use Rattle.slots.proofs.PayloadLaws.{pay-inj}
-use Rattle.rules.specs.Tables.{Table, hashEntry, matching, mothersOf}
+use Rattle.rules.specs.Tables.{Table, hash_entry, matching, mothers_of}
 use Rattle.keeps.proofs.Annex.{Tables}
 
 -- fewer low bits
@@ -34,14 +34,14 @@ pub hash-fits : (b s m : ℕ) → s ≤ b → m < 2 ^ b → m / 2 ^ s < 2 ^ (b -
 hash-fits b s m h l = let e : b ≡ b - s + s = omega arith in shr_lt (b - s) s (subst (λ x. m < 2 ^ x) e l)
 
 -- two mother hashes with one canonical slot have one payload exactly if they are the same
-pub hash-is : (b s m n : ℕ) → s ≤ b → b - s < 18 → m < 2 ^ b → n < 2 ^ b → m % 2 ^ s ≡ n % 2 ^ s → is (hashEntry b s m) (hashEntry b s n) ≡ is m n
+pub hash-is : (b s m n : ℕ) → s ≤ b → b - s < 18 → m < 2 ^ b → n < 2 ^ b → m % 2 ^ s ≡ n % 2 ^ s → is (hash_entry b s m) (hash_entry b s n) ≡ is m n
 hash-is b s m n h l hm hn e = go (ℕ_discrete m n)
   where
-    go : Dec (m ≡ n) → is (hashEntry b s m) (hashEntry b s n) ≡ is m n
-    go (yes q) = is-yes (hashEntry b s m) (hashEntry b s n) (ap (hashEntry b s) q) ∙ sym (is-yes m n q)
-    go (no q) = is-no (hashEntry b s m) (hashEntry b s n) (λ x. q (same x)) ∙ sym (is-no m n q)
+    go : Dec (m ≡ n) → is (hash_entry b s m) (hash_entry b s n) ≡ is m n
+    go (yes q) = is-yes (hash_entry b s m) (hash_entry b s n) (ap (hash_entry b s) q) ∙ sym (is-yes m n q)
+    go (no q) = is-no (hash_entry b s m) (hash_entry b s n) (λ x. q (same x)) ∙ sym (is-no m n q)
       where
-        same : hashEntry b s m ≡ hashEntry b s n → m ≡ n
+        same : hash_entry b s m ≡ hash_entry b s n → m ≡ n
         same x =
             let d : m / 2 ^ s ≡ n / 2 ^ s = (pay-inj 18 (b - s) (m / 2 ^ s) (b - s) (n / 2 ^ s) l (hash-fits b s m h hm) l (hash-fits b s n h hn) x).1 in
             sym (split m s) ∙ ap₂ (λ (u v : ℕ). u * 2 ^ s + v) d e ∙ split n s
@@ -56,10 +56,10 @@ module _ (t : Table) (x m a : ℕ) (s-b : t.s ≤ t.b) (n18 : t.b - t.s < 18) (s
   run = get_or t.runs x []
 
   abbrev p : ℕ
-  p = hashEntry t.b t.s (a % 2 ^ t.b)
+  p = hash_entry t.b t.s (a % 2 ^ t.b)
 
   abbrev q : ℕ
-  q = hashEntry t.b t.s m
+  q = hash_entry t.b t.s m
 
   -- what the change does to the count in that run, it does to the match
   count-change : (f : List ℕ → List ℕ) (y z : ℕ) → (a % 2 ^ t.s ≡ x → count p (f run) + y ≡ count p run + z) → ((a % 2 ^ t.s ≡ x → ⊥) → y ≡ z)
@@ -95,16 +95,16 @@ module _ (t : Table) (x m a : ℕ) (s-b : t.s ≤ t.b) (n18 : t.b - t.s < 18) (s
 
 -- ---- all tables
 
-pub mothers-append : (a : ℕ) (ts us : List Table) → mothersOf a (ts ++ us) ≡ mothersOf a ts + mothersOf a us
-unfolding mothersOf
+pub mothers-append : (a : ℕ) (ts us : List Table) → mothers_of a (ts ++ us) ≡ mothers_of a ts + mothers_of a us
+unfolding mothers_of
 mothers-append a ts us = sum-append (matching a) ts us
 
 -- they see the low k bits of an address only
-pub mothers-low : (k last a c : ℕ) (ts : List Table) → Tables k last ts → a % 2 ^ k ≡ c % 2 ^ k → mothersOf a ts ≡ mothersOf c ts
-unfolding mothersOf sum matching
+pub mothers-low : (k last a c : ℕ) (ts : List Table) → Tables k last ts → a % 2 ^ k ≡ c % 2 ^ k → mothers_of a ts ≡ mothers_of c ts
+unfolding mothers_of sum matching
 mothers-low k last a c [] v e = refl
 mothers-low k last a c (t ∷ ts) v e =
     let f = v.0 in
     ap₂ ◌+◌
-    (ap₂ (λ (x y : ℕ). count (hashEntry t.b t.s x) (get_or t.runs y [])) (low_bits t.b k a c f.short e) (low_bits t.s k a c (omega (arith, f.short, f.s-b)) e))
+    (ap₂ (λ (x y : ℕ). count (hash_entry t.b t.s x) (get_or t.runs y [])) (low_bits t.b k a c f.short e) (low_bits t.s k a c (omega (arith, f.short, f.s-b)) e))
     (mothers-low k t.b a c ts v.1 e)

@@ -10,32 +10,32 @@ use Rattle.lists.specs.Runs.{Runs}
 use Rattle.lists.proofs.Alls.{All}
 use Rattle.slots.specs.Numbers.{limit}
 use Rattle.directory.specs.declared.Place.{Place}
-use Rattle.directory.specs.Places.{placesNotInUse, placesRight, zeroPlace, wordsTaken}
-use Rattle.rules.specs.Record.{Filter, width, inUse}
-use Rattle.rules.specs.Refusals.{settingsRight}
-use Rattle.rules.specs.Tables.{Table, tables, tableWords, place_of}
-use Rattle.rules.specs.Sound.{mainEntry}
+use Rattle.directory.specs.Places.{places_not_in_use, places_right, zero_place, words_taken}
+use Rattle.rules.specs.Record.{Filter, width, in_use}
+use Rattle.rules.specs.Refusals.{settings_right}
+use Rattle.rules.specs.Tables.{Table, tables, table_words, place_of}
+use Rattle.rules.specs.Sound.{main_entry}
 use Rattle.keeps.proofs.Holds.{Holds}
 use Rattle.keeps.proofs.State.{Address, Fine}
 use Rattle.keeps.proofs.Annex.{Tables, Read, read, written}
 
 pub record Parts (r : Filter) (main queue annex rest : List ℕ) (runs : Runs) (ts : List Table) : Type 0 where
-  pub settings : T (settingsRight r.start r.f r.regime)
+  pub settings : T (settings_right r.start r.f r.regime)
   pub low-k : r.start ≤ r.k
   pub high-k : r.k ≤ 20
   pub used-fits : r.used ≤ limit r.k
   pub queue-fits : r.queued ≤ 2 ^ 20
   pub queue_long : r.queued ≤ length queue
   pub are : Tables r.k 5 ts
-  pub places : inUse r ≡ map place_of ts
-  pub zeros : T (every zeroPlace (placesNotInUse r.dir))
-  pub words : annex ≡ tableWords ts ++ rest
-  pub table : Holds (mainEntry (width r) r.k) r.k r.used main runs
+  pub places : in_use r ≡ map place_of ts
+  pub zeros : T (every zero_place (places_not_in_use r.dir))
+  pub words : annex ≡ table_words ts ++ rest
+  pub table : Holds (main_entry (width r) r.k) r.k r.used main runs
   pub queue-right : All (λ w. w / 2 < 2 ^ r.k) (take r.queued queue)
   pub address : (c : ℕ) → c < 2 ^ r.k → Address (width r) ts (take r.queued queue) c (get_or runs c [])
 
 -- they are read back
-pub parts-back : {r : Filter} {main queue annex rest : List ℕ} {runs : Runs} {ts : List Table} → Parts r main queue annex rest runs ts → tables (inUse r) annex ≡ ts
+pub parts-back : {r : Filter} {main queue annex rest : List ℕ} {runs : Runs} {ts : List Table} → Parts r main queue annex rest runs ts → tables (in_use r) annex ≡ ts
 parts-back {r} {main} {queue} {annex} {rest} {runs} {ts} v = ap₂ tables v.places v.words ∙ (written r.k 5 ts rest v.are).back
 
 pub parts-fine : {r : Filter} {main queue annex rest : List ℕ} {runs : Runs} {ts : List Table} → Parts r main queue annex rest runs ts → Fine r main queue annex runs
@@ -48,14 +48,14 @@ parts-fine {r} {main} {queue} {annex} {rest} {runs} {ts} v =
       used-fits = v.used-fits;
       queue-fits = v.queue-fits;
       queue_long = v.queue_long;
-      places = subst (λ (x : List Place). T (placesRight r.k 5 x)) (sym v.places) w.places;
+      places = subst (λ (x : List Place). T (places_right r.k 5 x)) (sym v.places) w.places;
       zeros = v.zeros;
-      annex-long = omega (arith, ap wordsTaken v.places, ap length v.words, length-append (tableWords ts) rest, w.long);
+      annex-long = omega (arith, ap words_taken v.places, ap length v.words, length-append (table_words ts) rest, w.long);
       annex-right = rw (v.places, v.words) w.right;
       table = v.table;
       queue-right = v.queue-right;
       address = λ c h. subst (λ (x : List Table). Address (width r) x (take r.queued queue) c (get_or runs c [])) (sym (parts-back v)) (v.address c h);
     }
 
-pub tables-of : {r : Filter} {main queue annex : List ℕ} {runs : Runs} → Fine r main queue annex runs → Read r.k 5 (inUse r) annex
-tables-of {r} {main} {queue} {annex} v = read r.k 5 (inUse r) annex v.places v.annex-right v.annex-long
+pub tables-of : {r : Filter} {main queue annex : List ℕ} {runs : Runs} → Fine r main queue annex runs → Read r.k 5 (in_use r) annex
+tables-of {r} {main} {queue} {annex} v = read r.k 5 (in_use r) annex v.places v.annex-right v.annex-long

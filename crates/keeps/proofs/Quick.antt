@@ -15,14 +15,14 @@ use Rattle.lists.proofs.Alls.{All, all-get}
 use Rattle.lists.proofs.Sums.{same_length}
 use Rattle.lists.proofs.RunLaws.{Rises, all-add, rises-add, length-add, all-erase, rises-erase, erase_same, count_add, count_erase_self, count-erase-other, total-set}
 use Rattle.slots.specs.Numbers.{limit}
-use Rattle.slots.specs.Payload.{void, tombstone, rest_of, canonicalSlot, matches}
+use Rattle.slots.specs.Payload.{void, tombstone, rest_of, canonical_slot, matches}
 use Rattle.slots.proofs.PayloadLaws.{Match, match-true, fresh-lt, fresh-rest, fresh-length, void-tombstone, bits-void, bits-tombstone, rest-one, tombstone-lt, tombstone-rest}
 use Rattle.layout.specs.Machine.{layout}
 use Rattle.layout.specs.Decode.{run_at}
 use Rattle.rules.specs.Record.{Filter, change, width, fresh}
-use Rattle.rules.specs.Sound.{mainEntry}
+use Rattle.rules.specs.Sound.{main_entry}
 use Rattle.rules.specs.Calls.{Outcome}
-use Rattle.rules.specs.Quick.{home, freshEntry, matchesIn, best, inserted}
+use Rattle.rules.specs.Quick.{home, fresh_entry, matches_in, best, inserted}
 use Rattle.keeps.proofs.Holds.{run-read}
 use Rattle.keeps.proofs.State.{Good, Fine}
 use Rattle.keeps.proofs.Bounds.{sizes, fresh-3, width-fresh, width-pos}
@@ -33,7 +33,7 @@ abbrev pub GoodOutcome : Outcome → Type 0
 GoodOutcome o = Good o.rec o.main o.queue o.annex
 
 pub home-lt : (r : Filter) (h : ℕ) → home r h < 2 ^ r.k
-unfolding canonicalSlot
+unfolding canonical_slot
 home-lt r h = mod-lt h (pow_pos r.k)
 
 -- ---- the fresh entry
@@ -42,9 +42,9 @@ pub record IsFresh (r : Filter) (p : ℕ) : Type 0 where
   pub small : p < 2 ^ width r
   pub rest : rest_of (width r) p ≡ fresh r + 1
   pub bits : 1 < rest_of (width r) p
-  pub passed : T (mainEntry (width r) r.k p)
+  pub passed : T (main_entry (width r) r.k p)
 
-pub is-fresh : (r : Filter) (main queue annex : List ℕ) (runs : Runs) → Fine r main queue annex runs → (h : ℕ) → IsFresh r (freshEntry r h)
+pub is-fresh : (r : Filter) (main queue annex : List ℕ) (runs : Runs) → Fine r main queue annex runs → (h : ℕ) → IsFresh r (fresh_entry r h)
 is-fresh r main queue annex runs v h =
     let w = width r in
     let l = fresh r in
@@ -57,24 +57,24 @@ is-fresh r main queue annex runs v h =
       small = small;
       rest = rest;
       bits = omega (arith, rest, f3);
-      passed = passes w r.k (freshEntry r h) small (λ _. omega (arith, f3, z.start-3, v.low-k, fresh-length w l r.k h lt));
+      passed = passes w r.k (fresh_entry r h) small (λ _. omega (arith, f3, z.start-3, v.low-k, fresh-length w l r.k h lt));
     }
 
 -- ---- INSERT
 
 pub insert-fine : (r : Filter) (main queue annex : List ℕ) (h : ℕ) (runs : Runs) → Fine r main queue annex runs → r.used < limit r.k
-    → Fine (inserted r main queue annex h).rec (inserted r main queue annex h).main queue annex (set runs (home r h) (add (freshEntry r h) (get_or runs (home r h) [])))
+    → Fine (inserted r main queue annex h).rec (inserted r main queue annex h).main queue annex (set runs (home r h) (add (fresh_entry r h) (get_or runs (home r h) [])))
 unfolding inserted
 insert-fine r main queue annex h runs v lt =
     let w = width r in
-    let p : ℕ = freshEntry r h in
+    let p : ℕ = fresh_entry r h in
     let run : List ℕ = get_or runs (home r h) [] in
     let fr = is-fresh r main queue annex runs v h in
     let hl : home r h < length runs = omega (arith, v.table.size, home-lt r h) in
     rw v.table.held
     (edited-only r main queue annex runs v (home r h) (home-lt r h) (add p run) (r.used + 1)
     (rises-add p run (all-get Rises runs [] v.table.rises (home r h) hl))
-    (all-add (λ p. T (mainEntry w r.k p)) p run fr.passed (all-get (All (λ p. T (mainEntry w r.k p))) runs [] v.table.passes (home r h) hl))
+    (all-add (λ p. T (main_entry w r.k p)) p run fr.passed (all-get (All (λ p. T (main_entry w r.k p))) runs [] v.table.passes (home r h) hl))
     (omega (arith, length-add p run))
     (omega arith)
     (omega (arith, count_add p (tombstone w) run, is-no (tombstone w) p (bits-tombstone w p fr.bits)))
@@ -87,11 +87,11 @@ pub record Found (r : Filter) (h p : ℕ) (run : List ℕ) : Type 0 where
   pub small : p < 2 ^ width r
   pub match : Match (width r) r.k h p
   pub rises : Rises run
-  pub passed : All (λ p. T (mainEntry (width r) r.k p)) run
+  pub passed : All (λ p. T (main_entry (width r) r.k p)) run
 
-pub found : (r : Filter) (main queue annex : List ℕ) (h : ℕ) (runs : Runs) → Fine r main queue annex runs → 0 < length (matchesIn r main h)
+pub found : (r : Filter) (main queue annex : List ℕ) (h : ℕ) (runs : Runs) → Fine r main queue annex runs → 0 < length (matches_in r main h)
     → Found r h (best r main h) (get_or runs (home r h) [])
-unfolding best matchesIn
+unfolding best matches_in
 found r main queue annex h runs v l =
     let f = matches (width r) r.k h in
     let run : List ℕ = get_or runs (home r h) [] in
@@ -100,14 +100,14 @@ found r main queue annex h runs v l =
     let l' : 0 < length (hits f run) = subst (λ (x : List ℕ). 0 < length (hits f x)) e l in
     subst (λ (x : List ℕ). Found r h (get_or (hits f x) 0 (tombstone (width r))) run) (sym e)
     (made (get_or (hits f run) 0 (tombstone (width r))) run (all-get Rises runs [] v.table.rises (home r h) hl)
-    (all-get (All (λ p. T (mainEntry (width r) r.k p))) runs [] v.table.passes (home r h) hl)
+    (all-get (All (λ p. T (main_entry (width r) r.k p))) runs [] v.table.passes (home r h) hl)
     (hits-best f (tombstone (width r)) run (all-get Rises runs [] v.table.rises (home r h) hl) l'))
   where
-    made : (p : ℕ) (run : List ℕ) → Rises run → All (λ p. T (mainEntry (width r) r.k p)) run → Best (matches (width r) r.k h) p run → Found r h p run
+    made : (p : ℕ) (run : List ℕ) → Rises run → All (λ p. T (main_entry (width r) r.k p)) run → Best (matches (width r) r.k h) p run → Found r h p run
     made p run ri pa b =
         record {
           chosen = b;
-          small = passes-lt (width r) r.k p (all-count (λ p. T (mainEntry (width r) r.k p)) run p pa b.inside);
+          small = passes-lt (width r) r.k p (all-count (λ p. T (main_entry (width r) r.k p)) run p pa b.inside);
           match = match-true (width r) r.k h p b.hit;
           rises = ri;
           passed = pa;
@@ -132,7 +132,7 @@ module _ (r : Filter) (main queue annex : List ℕ) (h : ℕ) (runs : Runs) (v :
   run = get_or runs (home r h) []
 
   abbrev Passed : ℕ → Type 0
-  Passed p = T (mainEntry (width r) r.k p)
+  Passed p = T (main_entry (width r) r.k p)
 
   wpos : 0 < width r
   wpos = width-pos r r.k
@@ -168,23 +168,23 @@ module _ (r : Filter) (main queue annex : List ℕ) (h : ℕ) (runs : Runs) (v :
 
   -- REJUVENATE
   abbrev q : ℕ
-  q = freshEntry r h
+  q = fresh_entry r h
 
-  fr : IsFresh r (freshEntry r h)
+  fr : IsFresh r (fresh_entry r h)
   fr = is-fresh r main queue annex runs v h
 
-  again : Rises (add (freshEntry r h) (erase p (get_or runs (home r h) [])))
+  again : Rises (add (fresh_entry r h) (erase p (get_or runs (home r h) [])))
   again = rises-add q (erase p run) (rises-erase p run f.rises)
 
-  again-passes : All (λ p. T (mainEntry (width r) r.k p)) (add (freshEntry r h) (erase p (get_or runs (home r h) [])))
+  again-passes : All (λ p. T (main_entry (width r) r.k p)) (add (fresh_entry r h) (erase p (get_or runs (home r h) [])))
   again-passes = all-add Passed q (erase p run) fr.passed (all-erase Passed p run f.passed)
 
-  as_many : r.used + length (get_or runs (home r h) []) ≡ r.used + length (add (freshEntry r h) (erase p (get_or runs (home r h) [])))
+  as_many : r.used + length (get_or runs (home r h) []) ≡ r.used + length (add (fresh_entry r h) (erase p (get_or runs (home r h) [])))
   as_many = omega (arith, one_less, length-add q (erase p run))
 
   pub renewed-bits : (p ≡ void (width r) → ⊥)
-      → Fine (change r r.k r.used r.queued r.dir) (layout (set runs (home r h) (add (freshEntry r h) (erase p (get_or runs (home r h) []))))) queue annex
-      (set runs (home r h) (add (freshEntry r h) (erase p (get_or runs (home r h) []))))
+      → Fine (change r r.k r.used r.queued r.dir) (layout (set runs (home r h) (add (fresh_entry r h) (erase p (get_or runs (home r h) []))))) queue annex
+      (set runs (home r h) (add (fresh_entry r h) (erase p (get_or runs (home r h) []))))
   renewed-bits ne =
       let b : 1 < rest_of w p = bits_of r h p run f ne in
       edited-only r main queue annex runs v c (home-lt r h) (add q (erase p run)) r.used again again-passes as_many v.used-fits
@@ -192,8 +192,8 @@ module _ (r : Filter) (main queue annex : List ℕ) (h : ℕ) (runs : Runs) (v :
       (omega (arith, count_add q (void w) (erase p run), is-no (void w) q (bits-void w q wpos fr.bits), count-erase-other p (void w) run (bits-void w p wpos b)))
 
   pub renewed-void : p ≡ void (width r) → r.queued < 2 ^ 20 → r.queued < length queue
-      → Fine (change r r.k r.used (r.queued + 1) r.dir) (layout (set runs (home r h) (add (freshEntry r h) (erase p (get_or runs (home r h) [])))))
-      (set queue r.queued (home r h * 2 + 1)) annex (set runs (home r h) (add (freshEntry r h) (erase p (get_or runs (home r h) []))))
+      → Fine (change r r.k r.used (r.queued + 1) r.dir) (layout (set runs (home r h) (add (fresh_entry r h) (erase p (get_or runs (home r h) [])))))
+      (set queue r.queued (home r h * 2 + 1)) annex (set runs (home r h) (add (fresh_entry r h) (erase p (get_or runs (home r h) []))))
   renewed-void e n1 n2 =
       edited-queue r main queue annex runs v c (home-lt r h) (add q (erase p run)) r.used (c * 2 + 1) (omega arith) n1 n2 again again-passes as_many v.used-fits
       (omega (

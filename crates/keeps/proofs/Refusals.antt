@@ -7,7 +7,7 @@ use native.Mathlib.Omega.{arith}
 use lib.Dec.{T}
 use lib.ListN.{length}
 use Rattle.rules.specs.Record.{Filter}
-use Rattle.rules.specs.Refusals.{Test, refusal, recordRight, slicesRight}
+use Rattle.rules.specs.Refusals.{Test, refusal, record_right, slices_right}
 use Rattle.rules.specs.Calls.{Outcome, give, refused, asked}
 
 pub refusal-passed : (t : Test) (ts : List Test) → T t.right → refusal (t ∷ ts) ≡ refusal ts
@@ -33,14 +33,14 @@ refusal-zero true n ts e = (tt, e)
 refusal-zero false n ts e = absurd (omega arith)
 
 pub asked-zero : (r : Filter) (main queue annex : List ℕ) (ts : List Test) → refusal (asked r main queue annex ts) ≡ 0
-    → T (recordRight r) × T (slicesRight r (length main) (length queue) (length annex)) × (refusal ts ≡ 0)
+    → T (record_right r) × T (slices_right r (length main) (length queue) (length annex)) × (refusal ts ≡ 0)
 unfolding asked
 asked-zero r main queue annex ts e =
-    let a = refusal-zero (recordRight r) 1 _ e in
-    let b = refusal-zero (slicesRight r (length main) (length queue) (length annex)) 2 ts a.1 in
+    let a = refusal-zero (record_right r) 1 _ e in
+    let b = refusal-zero (slices_right r (length main) (length queue) (length annex)) 2 ts a.1 in
     (a.0, b.0, b.1)
 
-pub zero-asked : (r : Filter) (main queue annex : List ℕ) (ts : List Test) → T (recordRight r) → T (slicesRight r (length main) (length queue) (length annex))
+pub zero-asked : (r : Filter) (main queue annex : List ℕ) (ts : List Test) → T (record_right r) → T (slices_right r (length main) (length queue) (length annex))
     → refusal (asked r main queue annex ts) ≡ refusal ts
 unfolding asked
 zero-asked r main queue annex ts a b = refusal-passed _ _ a ∙ refusal-passed _ ts b

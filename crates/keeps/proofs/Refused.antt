@@ -8,8 +8,8 @@ use lib.ListN.{length}
 use Rattle.slots.specs.Payload.{void, length_of}
 use Rattle.rules.specs.Record.{Filter, width, fresh}
 use Rattle.rules.specs.Calls.{Outcome, give, refused}
-use Rattle.rules.specs.Quick.{best, insertNumber, inserted, insert, takeNumber, deleted, delete, rejuvenated, rejuvenate}
-use Rattle.rules.specs.Slow.{audit, heldAfter, settled, settle, doubleNumber, doubledRuns, secondMain, doubledOutcome, double}
+use Rattle.rules.specs.Quick.{best, insert_number, inserted, insert, take_number, deleted, delete, rejuvenated, rejuvenate}
+use Rattle.rules.specs.Slow.{audit, held_after, settled, settle, double_number, doubled_runs, second_main, doubled_outcome, double}
 use Rattle.layout.specs.Machine.{layout}
 use Rattle.keeps.proofs.Refusals.{given-refused, Unchanged, unchanged}
 use Rattle.keeps.proofs.State.{Good}
@@ -20,7 +20,7 @@ module _ (r : Filter) (main queue annex : List ℕ) where
   pub insert-refused : (h : ℕ) → ((insert r main queue annex h).number ≡ 0 → ⊥) → Unchanged r main queue annex (insert r main queue annex h)
   unfolding insert inserted
   insert-refused h ne =
-      let n = insertNumber r main queue annex in
+      let n = insert_number r main queue annex in
       unchanged r main queue annex _ n (given-refused n (inserted r main queue annex h) (refused r main queue annex n) refl ne)
 
   deleted-zero : (h : ℕ) → (deleted r main queue annex h).number ≡ 0
@@ -41,34 +41,34 @@ module _ (r : Filter) (main queue annex : List ℕ) where
   pub delete-refused : (h : ℕ) → ((delete r main queue annex h).number ≡ 0 → ⊥) → Unchanged r main queue annex (delete r main queue annex h)
   unfolding delete
   delete-refused h ne =
-      let n = takeNumber r main queue annex h in
+      let n = take_number r main queue annex h in
       unchanged r main queue annex _ n (given-refused n (deleted r main queue annex h) (refused r main queue annex n) (deleted-zero h) ne)
 
   pub rejuvenate-refused : (h : ℕ) → ((rejuvenate r main queue annex h).number ≡ 0 → ⊥) → Unchanged r main queue annex (rejuvenate r main queue annex h)
   unfolding rejuvenate
   rejuvenate-refused h ne =
-      let n = takeNumber r main queue annex h in
+      let n = take_number r main queue annex h in
       unchanged r main queue annex _ n (given-refused n (rejuvenated r main queue annex h) (refused r main queue annex n) (rejuvenated-zero h) ne)
 
   pub settle-refused : ((settle r main queue annex).number ≡ 0 → ⊥) → Unchanged r main queue annex (settle r main queue annex)
   unfolding settle settled
   settle-refused ne =
       let n = audit r main queue annex in
-      unchanged r main queue annex _ n (given-refused n (settled r main queue annex (heldAfter r main queue annex)) (refused r main queue annex n) refl ne)
+      unchanged r main queue annex _ n (given-refused n (settled r main queue annex (held_after r main queue annex)) (refused r main queue annex n) refl ne)
 
   pub double-refused : (second : ℕ) → ((double r main queue annex second).number ≡ 0 → ⊥) → Unchanged r main queue annex (double r main queue annex second)
-  unfolding double doubledOutcome
+  unfolding double doubled_outcome
   double-refused second ne =
-      let n = doubleNumber r main queue annex second in
-      unchanged r main queue annex _ n (given-refused n (doubledOutcome r main queue annex) (refused r main queue annex n) refl ne)
+      let n = double_number r main queue annex second in
+      unchanged r main queue annex _ n (given-refused n (doubled_outcome r main queue annex) (refused r main queue annex n) refl ne)
 
   -- .. and the second main keeps its words
-  pub second-refused : (second : List ℕ) → ((double r main queue annex (length second)).number ≡ 0 → ⊥) → secondMain r main queue annex second ≡ second
-  unfolding double doubledOutcome secondMain
-  second-refused second ne = go (doubleNumber r main queue annex (length second)) ne
+  pub second-refused : (second : List ℕ) → ((double r main queue annex (length second)).number ≡ 0 → ⊥) → second_main r main queue annex second ≡ second
+  unfolding double doubled_outcome second_main
+  second-refused second ne = go (double_number r main queue annex (length second)) ne
     where
-      go : (n : ℕ) → ((give n (doubledOutcome r main queue annex) (refused r main queue annex n)).number ≡ 0 → ⊥)
-          → ◌≡◌ {A = List ℕ} (elim n [ zero ↦ layout (doubledRuns r main queue annex) | suc n ↦ second ]) second
+      go : (n : ℕ) → ((give n (doubled_outcome r main queue annex) (refused r main queue annex n)).number ≡ 0 → ⊥)
+          → ◌≡◌ {A = List ℕ} (elim n [ zero ↦ layout (doubled_runs r main queue annex) | suc n ↦ second ]) second
       go zero ne = absurd (ne (unfold give in refl))
       go (suc n) ne = refl
 
@@ -76,6 +76,6 @@ module _ (r : Filter) (main queue annex : List ℕ) where
   unfolding settle settled
   good-settles g = go (audit r main queue annex) (good-audit r main queue annex g)
     where
-      go : (n : ℕ) → n ≡ 0 → (give n (settled r main queue annex (heldAfter r main queue annex)) (refused r main queue annex n)).number ≡ 0
+      go : (n : ℕ) → n ≡ 0 → (give n (settled r main queue annex (held_after r main queue annex)) (refused r main queue annex n)).number ≡ 0
       go zero e = unfold give in refl
       go (suc n) e = absurd (omega arith)

@@ -12,11 +12,11 @@ use Rattle.lists.proofs.Alls.{All, all_same}
 use Rattle.lists.proofs.RunLaws.{Rises, total-none}
 use Rattle.layout.specs.Decode.{decode}
 use Rattle.layout.proofs.Keeps.{layout-none}
-use Rattle.rules.specs.Record.{Filter, allZero, width}
-use Rattle.rules.specs.Refusals.{settingsRight}
-use Rattle.rules.specs.Tables.{mothersOf, tableWords}
-use Rattle.rules.specs.Sound.{mainEntry, naming}
-use Rattle.rules.specs.Calls.{refused, startNumber, started, start}
+use Rattle.rules.specs.Record.{Filter, all_zero, width}
+use Rattle.rules.specs.Refusals.{settings_right}
+use Rattle.rules.specs.Tables.{mothers_of, table_words}
+use Rattle.rules.specs.Sound.{main_entry, naming}
+use Rattle.rules.specs.Calls.{refused, start_number, started, start}
 use Rattle.keeps.proofs.Refusals.{refusal-zero, given-done}
 use Rattle.keeps.proofs.Holds.{Holds, laid_out}
 use Rattle.keeps.proofs.State.{Address, Fine, good}
@@ -33,29 +33,29 @@ module _ (power f regime : ℕ) (main queue annex : List ℕ) where
 
   pub record StartDone : Type 0 where
     pub out : start power f regime main queue annex ≡ record { number = 0; rec = r; main = replicate (2 ^ power) 0; queue = queue; annex = annex }
-    pub settings : T (settingsRight power f regime)
+    pub settings : T (settings_right power f regime)
     pub long : length main ≡ 2 ^ power
 
   pub start-done : (start power f regime main queue annex).number ≡ 0 → StartDone
-  unfolding start refused startNumber
+  unfolding start refused start_number
   start-done z =
-      let n = startNumber power f regime (length main) in
-      let d = given-done n (record { number = 0; rec = r; main = replicate (2 ^ power) 0; queue = queue; annex = annex }) (refused allZero main queue annex n) refl z in
-      let a = refusal-zero (settingsRight power f regime) 10 _ d.0 in
+      let n = start_number power f regime (length main) in
+      let d = given-done n (record { number = 0; rec = r; main = replicate (2 ^ power) 0; queue = queue; annex = annex }) (refused all_zero main queue annex n) refl z in
+      let a = refusal-zero (settings_right power f regime) 10 _ d.0 in
       let b = refusal-zero (eqb (length main) (2 ^ power)) 2 _ a.1 in
       record { out = d.1; settings = a.0; long = eqb→eq (length main) (2 ^ power) b.0 }
 
-  holds : Holds (mainEntry (width r) power) power 0 (replicate (2 ^ power) 0) none
+  holds : Holds (main_entry (width r) power) power 0 (replicate (2 ^ power) 0) none
   holds =
-      let l = laid_out (mainEntry (width r) power) power none (length-replicate (2 ^ power) []) (omega (arith, total-none (2 ^ power), pow_pos power))
-      (all_same Rises (2 ^ power) [] (unfold Rises in tt)) (all_same (All (λ p. T (mainEntry (width r) power p))) (2 ^ power) [] tt) in
+      let l = laid_out (main_entry (width r) power) power none (length-replicate (2 ^ power) []) (omega (arith, total-none (2 ^ power), pow_pos power))
+      (all_same Rises (2 ^ power) [] (unfold Rises in tt)) (all_same (All (λ p. T (main_entry (width r) power p))) (2 ^ power) [] tt) in
       let e = layout-none (2 ^ power) in
       record { size = l.size; held = ap decode (sym e) ∙ l.held; laid = sym e; rises = l.rises; passes = l.passes; counted = total-none (2 ^ power); room = l.room }
 
   each : (c : ℕ) → c < 2 ^ power → Address (width r) [] [] c (get_or none c [])
-  each c h = subst (Address (width r) [] [] c) (sym (get_or-replicate (2 ^ power) c [] [] h)) (unfold mothersOf sum naming count in record { tombstones = refl; voids = refl })
+  each c h = subst (Address (width r) [] [] c) (sym (get_or-replicate (2 ^ power) c [] [] h)) (unfold mothers_of sum naming count in record { tombstones = refl; voids = refl })
 
-  started-parts : T (settingsRight power f regime) → Parts r (replicate (2 ^ power) 0) queue annex annex none []
+  started-parts : T (settings_right power f regime) → Parts r (replicate (2 ^ power) 0) queue annex annex none []
   unfolding started
   started-parts t =
       let z = sizes power f regime t in
@@ -69,13 +69,13 @@ module _ (power f regime : ℕ) (main queue annex : List ℕ) where
         are = tt;
         places = unfold front in refl;
         zeros = unfold every behind in tt;
-        words = unfold tableWords in refl;
+        words = unfold table_words in refl;
         table = holds;
         queue-right = tt;
         address = each;
       }
 
-  pub started-fine : T (settingsRight power f regime) → Fine r (replicate (2 ^ power) 0) queue annex none
+  pub started-fine : T (settings_right power f regime) → Fine r (replicate (2 ^ power) 0) queue annex none
   started-fine t = parts-fine (started-parts t)
 
   pub start-good : (start power f regime main queue annex).number ≡ 0 → GoodOutcome (start power f regime main queue annex)

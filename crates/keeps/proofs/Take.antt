@@ -20,9 +20,9 @@ use Rattle.lists.proofs.RunLaws.{Rises, all-erase, rises-erase, erase_same, tota
 use Rattle.layout.specs.Machine.{layout}
 use Rattle.layout.proofs.Keeps.{layout-none}
 use Rattle.directory.specs.Places.{keep, trim}
-use Rattle.rules.specs.Tables.{Table, hashEntry, matching, mothersOf, place_of}
-use Rattle.rules.specs.Sound.{annexEntry}
-use Rattle.rules.specs.Settling.{longest, takeHash}
+use Rattle.rules.specs.Tables.{Table, hash_entry, matching, mothers_of, place_of}
+use Rattle.rules.specs.Sound.{annex_entry}
+use Rattle.rules.specs.Settling.{longest, take_hash}
 use Rattle.keeps.proofs.Annex.{TableFine, Tables, table_more}
 use Rattle.keeps.proofs.Mothers.{mod_low, changed, matching-taken, mothers-append}
 
@@ -40,7 +40,7 @@ tables-changed k last (x ∷ xs) t u after e f v = (v.0, tables-changed k x.b xs
 
 -- the table without the mother hash that matches c
 abbrev pub without : Table → ℕ → Table
-without t c = changed t (c % 2 ^ t.s) (erase (hashEntry t.b t.s (c % 2 ^ t.b)))
+without t c = changed t (c % 2 ^ t.s) (erase (hash_entry t.b t.s (c % 2 ^ t.b)))
 
 module _ (k l c : ℕ) (t : Table) (f : TableFine k l t) where
   pub slot_lt : c % 2 ^ t.s < length t.runs
@@ -50,7 +50,7 @@ module _ (k l c : ℕ) (t : Table) (f : TableFine k l t) where
   unfolding matching
   without-fine m =
       let x : ℕ = c % 2 ^ t.s in
-      let p : ℕ = hashEntry t.b t.s (c % 2 ^ t.b) in
+      let p : ℕ = hash_entry t.b t.s (c % 2 ^ t.b) in
       let rs : Runs = t.runs in
       let run : List ℕ = get_or rs x [] in
       record {
@@ -61,8 +61,8 @@ module _ (k l c : ℕ) (t : Table) (f : TableFine k l t) where
         fits = omega (arith, f.fits, total-set rs x (erase p run) slot_lt, same_length run (p ∷ erase p run) (erase_same p run m));
         size = length-set rs x (erase p run) ∙ f.size;
         rises = all_set Rises rs x (erase p run) f.rises (rises-erase p run (all-get Rises rs [] f.rises x slot_lt));
-        passes = all_set (All (λ p. T (annexEntry (t.b - t.s) p))) rs x (erase p run) f.passes
-            (all-erase (λ p. T (annexEntry (t.b - t.s) p)) p run (all-get (All (λ p. T (annexEntry (t.b - t.s) p))) rs [] f.passes x slot_lt));
+        passes = all_set (All (λ p. T (annex_entry (t.b - t.s) p))) rs x (erase p run) f.passes
+            (all-erase (λ p. T (annex_entry (t.b - t.s) p)) p run (all-get (All (λ p. T (annex_entry (t.b - t.s) p))) rs [] f.passes x slot_lt));
       }
 
   -- it matches once less at each address with those low bits
@@ -75,32 +75,32 @@ module _ (k l c : ℕ) (t : Table) (f : TableFine k l t) where
 -- ---- the longest match
 
 pub data Finding (c : ℕ) (ts : List Table) (n : ℕ) : Type 0 where
-  missing : n ≡ 0 → mothersOf c ts ≡ 0 → Finding c ts n
-  found : (before : List Table) (t : Table) (after : List Table) → n ≡ t.b → ts ≡ before ++ t ∷ after → takeHash t.b c ts ≡ before ++ without t c ∷ after
-      → 0 < matching c t → mothersOf c after ≡ 0 → Finding c ts n
+  missing : n ≡ 0 → mothers_of c ts ≡ 0 → Finding c ts n
+  found : (before : List Table) (t : Table) (after : List Table) → n ≡ t.b → ts ≡ before ++ t ∷ after → take_hash t.b c ts ≡ before ++ without t c ∷ after
+      → 0 < matching c t → mothers_of c after ≡ 0 → Finding c ts n
 
-take-here : (c : ℕ) (t : Table) (ts : List Table) → takeHash t.b c (t ∷ ts) ≡ without t c ∷ ts
-unfolding takeHash
-take-here c t ts = rw (eq-eqb t.b t.b refl, takeHash)
+take-here : (c : ℕ) (t : Table) (ts : List Table) → take_hash t.b c (t ∷ ts) ≡ without t c ∷ ts
+unfolding take_hash
+take-here c t ts = rw (eq-eqb t.b t.b refl, take_hash)
 
-take-later : (b c : ℕ) (t : Table) (ts : List Table) → t.b < b → takeHash b c (t ∷ ts) ≡ t ∷ takeHash b c ts
-unfolding takeHash
-take-later b c t ts h = rw (ne_eqb b t.b (λ e. omega arith), takeHash)
+take-later : (b c : ℕ) (t : Table) (ts : List Table) → t.b < b → take_hash b c (t ∷ ts) ≡ t ∷ take_hash b c ts
+unfolding take_hash
+take-later b c t ts h = rw (ne_eqb b t.b (λ e. omega arith), take_hash)
 
 pub finding : (k last c : ℕ) (ts : List Table) → Tables k last ts → Finding c ts (longest c ts)
-unfolding longest mothersOf sum
+unfolding longest mothers_of sum
 finding k last c [] v = missing refl refl
 finding k last c (t ∷ ts) v = go (longest c ts) (finding k t.b c ts v.1)
   where
     result : ℕ → ℕ
     result n = elim n [ zero ↦ elim (ltb 0 (matching c t)) [ true ↦ t.b | false ↦ 0 ] | suc n ↦ suc n ]
 
-    this : Dec (0 < matching c t) → mothersOf c ts ≡ 0 → Finding c (t ∷ ts) (result 0)
+    this : Dec (0 < matching c t) → mothers_of c ts ≡ 0 → Finding c (t ∷ ts) (result 0)
     this (yes h) z = subst (λ (b : Bool). Finding c (t ∷ ts) (elim b [ true ↦ t.b | false ↦ 0 ])) (sym (lt-ltb 0 (matching c t) h)) (found [] t ts refl refl (take-here c t ts) h z)
     this (no h) z = subst (λ (b : Bool). Finding c (t ∷ ts) (elim b [ true ↦ t.b | false ↦ 0 ])) (sym (le-ltb 0 (matching c t) (omega arith))) (missing refl (omega arith))
 
-    later : (n : ℕ) (before : List Table) (u : Table) (after : List Table) → t.b < u.b → n ≡ u.b → ts ≡ before ++ u ∷ after → takeHash u.b c ts ≡ before ++ without u c ∷ after
-        → 0 < matching c u → mothersOf c after ≡ 0 → Finding c (t ∷ ts) (result n)
+    later : (n : ℕ) (before : List Table) (u : Table) (after : List Table) → t.b < u.b → n ≡ u.b → ts ≡ before ++ u ∷ after → take_hash u.b c ts ≡ before ++ without u c ∷ after
+        → 0 < matching c u → mothers_of c after ≡ 0 → Finding c (t ∷ ts) (result n)
     later zero before u after l e p q m z = absurd (omega arith)
     later (suc n) before u after l e p q m z =
         found (t ∷ before) u after e (ap (λ (x : List Table). t ∷ x) p) (take-later u.b c t ts l ∙ ap (λ (x : List Table). t ∷ x) q) m z
@@ -111,7 +111,7 @@ finding k last c (t ∷ ts) v = go (longest c ts) (finding k t.b c ts v.1)
 
 -- each address with the low bits of c loses one
 pub lost-one : (k last c a : ℕ) (before : List Table) (t : Table) (after : List Table) → k ≤ 20 → Tables k last (before ++ t ∷ after) → 0 < matching c t
-    → mothersOf a (before ++ without t c ∷ after) + is (a % 2 ^ t.b) (c % 2 ^ t.b) ≡ mothersOf a (before ++ t ∷ after)
+    → mothers_of a (before ++ without t c ∷ after) + is (a % 2 ^ t.b) (c % 2 ^ t.b) ≡ mothers_of a (before ++ t ∷ after)
 lost-one k last c a before t after h v m =
     omega (
       arith,
@@ -122,8 +122,8 @@ lost-one k last c a before t after h v m =
       without-matching k last c t (table-inside k last before t after v) h m a,
     )
   where
-    mothers-cons : (a : ℕ) (t : Table) (ts : List Table) → mothersOf a (t ∷ ts) ≡ matching a t + mothersOf a ts
-    mothers-cons a t ts = unfold mothersOf sum in refl
+    mothers-cons : (a : ℕ) (t : Table) (ts : List Table) → mothers_of a (t ∷ ts) ≡ matching a t + mothers_of a ts
+    mothers-cons a t ts = unfold mothers_of sum in refl
 
 -- ---- empty tables at the end are dropped
 
@@ -181,14 +181,14 @@ empty-run ([] ∷ rs) (suc x) e = empty-run rs x (omega arith)
 empty-run ((y ∷ r) ∷ rs) x e = absurd (omega arith)
 
 -- so none of its hashes matches
-pub empty-mothers : (a : ℕ) (ts : List Table) → All (λ (t : Table). total t.runs ≡ 0) ts → mothersOf a ts ≡ 0
-unfolding mothersOf sum matching
+pub empty-mothers : (a : ℕ) (ts : List Table) → All (λ (t : Table). total t.runs ≡ 0) ts → mothers_of a ts ≡ 0
+unfolding mothers_of sum matching
 empty-mothers a [] e = refl
 empty-mothers a (t ∷ ts) e =
-    ap₂ ◌+◌ (ap (count (hashEntry t.b t.s (a % 2 ^ t.b))) (empty-run t.runs (a % 2 ^ t.s) e.0) ∙ none (hashEntry t.b t.s (a % 2 ^ t.b))) (empty-mothers a ts e.1)
+    ap₂ ◌+◌ (ap (count (hash_entry t.b t.s (a % 2 ^ t.b))) (empty-run t.runs (a % 2 ^ t.s) e.0) ∙ none (hash_entry t.b t.s (a % 2 ^ t.b))) (empty-mothers a ts e.1)
   where
     none : (p : ℕ) → count p [] ≡ 0
     none p = unfold count in refl
 
-pub trimmed-mothers : (k last : ℕ) (ts : List Table) (r : Trimmed k last ts) (a : ℕ) → mothersOf a r.left ≡ mothersOf a ts
-trimmed-mothers k last ts r a = omega (arith, ap (mothersOf a) r.cut, mothers-append a r.left r.dropped, empty-mothers a r.dropped r.empty)
+pub trimmed-mothers : (k last : ℕ) (ts : List Table) (r : Trimmed k last ts) (a : ℕ) → mothers_of a r.left ≡ mothers_of a ts
+trimmed-mothers k last ts r a = omega (arith, ap (mothers_of a) r.cut, mothers-append a r.left r.dropped, empty-mothers a r.dropped r.empty)

@@ -11,11 +11,11 @@ use borrow.Author.Tests.{eq-eqb, ne_eqb}
 use Rattle.lists.specs.Lists.{bit, within}
 use Rattle.lists.specs.Runs.{hits}
 use Rattle.lists.proofs.Tests.{and_left, and_right}
-use Rattle.slots.specs.Payload.{canonicalSlot, matches}
+use Rattle.slots.specs.Payload.{canonical_slot, matches}
 use Rattle.layout.specs.Decode.{run_at}
 use Rattle.layout.specs.Bytes.{words_of}
 use Rattle.rules.specs.Refusals.{refusal}
-use Rattle.rules.specs.Lookups.{bytesNumber, answer_in, queryBytes}
+use Rattle.rules.specs.Lookups.{bytes_number, answer_in, query_bytes}
 use Rattle.keeps.proofs.Refusals.{refusal-zero}
 use Rattle.lookup.specs.Spots.{First}
 use Rattle.filter.proofs.Firsts.{any-hit}
@@ -24,17 +24,17 @@ use Rattle.filter.proofs.Firsts.{any-hit}
 abbrev pub Ranged : ℕ → ℕ → Bool
 Ranged k w = within 3 20 k && within 4 26 w
 
-pub number-2 : (k w n : ℕ) → Ranged k w ≡ false → 2 ≡ bytesNumber k w n
-unfolding bytesNumber refusal
+pub number-2 : (k w n : ℕ) → Ranged k w ≡ false → 2 ≡ bytes_number k w n
+unfolding bytes_number refusal
 number-2 k w n e = rw (e, refusal)
 
 module _ (k w n slots : ℕ) (e : Ranged k w ≡ true) (es : slots ≡ 2 ^ k) where
-  pub number-3 : (n ≡ 4 * slots → ⊥) → 3 ≡ bytesNumber k w n
-  unfolding bytesNumber refusal
+  pub number-3 : (n ≡ 4 * slots → ⊥) → 3 ≡ bytes_number k w n
+  unfolding bytes_number refusal
   number-3 ne = rw (e, ne_eqb n (4 * 2 ^ k) (λ x. ne (x ∙ ap (λ (s : ℕ). 4 * s) (sym es))), refusal)
 
-  pub number-0 : n ≡ 4 * slots → 0 ≡ bytesNumber k w n
-  unfolding bytesNumber refusal
+  pub number-0 : n ≡ 4 * slots → 0 ≡ bytes_number k w n
+  unfolding bytes_number refusal
   number-0 en = rw (e, eq-eqb n (4 * 2 ^ k) (en ∙ ap (λ (s : ℕ). 4 * s) es), refusal)
 
 -- k is in range
@@ -48,9 +48,9 @@ pub record Walk (k w n c : ℕ) : Type 0 where
   pub more : 7 < n
   pub wide : w ≤ 26
 
-module _ (k w n : ℕ) (z : 0 ≡ bytesNumber k w n) where
+module _ (k w n : ℕ) (z : 0 ≡ bytes_number k w n) where
   rights : T (Ranged k w) × T (eqb n (4 * 2 ^ k))
-  unfolding bytesNumber
+  unfolding bytes_number
   rights =
       let x = refusal-zero (Ranged k w) 1 _ (sym z) in
       (x.0, (refusal-zero (eqb n (4 * 2 ^ k)) 2 [] x.1).0)
@@ -81,15 +81,15 @@ answered zero b e = refl
 answered (suc m) b e = absurd (omega arith)
 
 module _ (k w : ℕ) (bytes : List ℕ) (h : ℕ) where
-  pub bytes-refused : (n : ℕ) → n ≡ bytesNumber k w (length bytes) → (n ≡ 0 → ⊥) → n ≡ queryBytes k w bytes h
-  unfolding queryBytes
-  bytes-refused n e ne = refused n (bytesNumber k w (length bytes)) e ne (answer_in k w (words_of bytes) h)
+  pub bytes-refused : (n : ℕ) → n ≡ bytes_number k w (length bytes) → (n ≡ 0 → ⊥) → n ≡ query_bytes k w bytes h
+  unfolding query_bytes
+  bytes-refused n e ne = refused n (bytes_number k w (length bytes)) e ne (answer_in k w (words_of bytes) h)
 
-  pub bytes-answered : 0 ≡ bytesNumber k w (length bytes) → (c : ℕ) → c ≡ canonicalSlot k h → (found : Bool) (p : ℕ) → First (matches w k h) (run_at (words_of bytes) c) found p
-      → (a : Bool) → found ≡ a → bit a ≡ queryBytes k w bytes h
-  unfolding queryBytes answer_in
+  pub bytes-answered : 0 ≡ bytes_number k w (length bytes) → (c : ℕ) → c ≡ canonical_slot k h → (found : Bool) (p : ℕ) → First (matches w k h) (run_at (words_of bytes) c) found p
+      → (a : Bool) → found ≡ a → bit a ≡ query_bytes k w bytes h
+  unfolding query_bytes answer_in
   bytes-answered z c ec found p m a ea =
       ap bit
       (sym ea ∙ m.any ∙ any-hit (matches w k h) (run_at (words_of bytes) c)
       ∙ ap (λ (s : ℕ). ltb 0 (length (hits (matches w k h) (run_at (words_of bytes) s)))) ec)
-      ∙ answered (bytesNumber k w (length bytes)) (answer_in k w (words_of bytes) h) z
+      ∙ answered (bytes_number k w (length bytes)) (answer_in k w (words_of bytes) h) z

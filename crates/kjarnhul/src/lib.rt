@@ -1,16 +1,16 @@
 // Every exported function: Query on bytes for the front page, and the calls on a record that the host lends and that is updated in place.
 ghost use Rattle.std.specs.Prelude.{◌≡◌};
 ghost use Rattle.rules.specs.Quick.{query};
-ghost use Rattle.rules.specs.Lookups.{bytesNumber, queryBytes};
+ghost use Rattle.rules.specs.Lookups.{bytes_number, query_bytes};
 ghost use Rattle.filter.specs.Plain.{plain};
-ghost use Rattle.filter.specs.Contracts.{Leaves, Inserts, Deletes, Rejuvenates, Audits, Settles, Doubles};
+ghost use Rattle.filter.specs.Promises.{Leaves, Inserts, Deletes, Rejuvenates, Audits, Settles, Doubles};
 ghost use Rattle.filter.specs.Restart.{restart};
 
 use filter::Record;
 
 // 2, 3, or 0 where neither is given.
 fn bytes_number(k: u32, w: u32, bytes: usize) -> u32
-    ensures { result ≡ bytesNumber k w bytes }
+    ensures { result ≡ bytes_number k w bytes }
 {
     if ((3 <= k) & (k <= 20)) & ((4 <= w) & (w <= 26)) {
         let slots = slots::pow2(k) as usize;
@@ -24,7 +24,7 @@ fn bytes_number(k: u32, w: u32, bytes: usize) -> u32
 
 #[unsafe(no_mangle)]
 pub extern "C" fn kj_query_bytes(k: u32, w: u32, hash: u64, main: &[u8]) -> u32
-    ensures { result ≡ queryBytes k w main.now hash }
+    ensures { result ≡ query_bytes k w main.now hash }
 {
     let n = bytes_number(k, w, main.len());
     if n != 0 {

@@ -14,7 +14,7 @@ use Rattle.layout.specs.Document.{carry}
 use Rattle.layout.proofs.Insert.{pend-others}
 use Rattle.layout.proofs.InsertLaw.{insert-law}
 use Rattle.layout.proofs.RemoveLaw.{remove-law}
-use Rattle.layout.specs.Moves.{insertAt, removeAt}
+use Rattle.layout.specs.Moves.{insert_at, remove_at}
 
 -- the other slots of the circle, from the one after c
 abbrev pub others : List (List ℕ) → ℕ → List (List ℕ)
@@ -32,7 +32,7 @@ turn-set runs c r h =
 module _ (runs : List (List ℕ)) (c : ℕ) (hc : c < length runs) (us vs : List ℕ) (x : ℕ) where
   -- INSERT, at an address whose run is us and then vs
   pub insert-at : get_or runs c [] ≡ us ++ vs → suc (total runs) < length runs
-      → turn c (layout (set runs c (us ++ (x ∷ vs)))) ≡ insertAt (length us) (occupied (us ++ vs)) (carry runs c + length us) x (turn c (layout runs))
+      → turn c (layout (set runs c (us ++ (x ∷ vs)))) ≡ insert_at (length us) (occupied (us ++ vs)) (carry runs c + length us) x (turn c (layout runs))
   unfolding total
   insert-at e h =
       let s = others runs c in
@@ -54,12 +54,12 @@ module _ (runs : List (List ℕ)) (c : ℕ) (hc : c < length runs) (us vs : List
       turn-layout c (set runs c (us ++ (x ∷ vs))) (omega arith) small'
       ∙ ap layout new
       ∙ insert-law us vs x s small
-      ∙ ap₂ (λ (k : ℕ) (l : List ℕ). insertAt (length us) (occupied (us ++ vs)) (k + length us) x l) q
+      ∙ ap₂ (λ (k : ℕ) (l : List ℕ). insert_at (length us) (occupied (us ++ vs)) (k + length us) x l) q
       (ap layout (sym old) ∙ sym (turn-layout c runs (omega arith) (omega arith)))
 
   -- REMOVE, at an address whose run is us, x and then vs
   pub remove-at : get_or runs c [] ≡ us ++ (x ∷ vs) → total runs < length runs
-      → turn c (layout (set runs c (us ++ vs))) ≡ removeAt (length us) (length vs) (carry runs c + length us) (turn c (layout runs))
+      → turn c (layout (set runs c (us ++ vs))) ≡ remove_at (length us) (length vs) (carry runs c + length us) (turn c (layout runs))
   unfolding total
   remove-at e h =
       let s = others runs c in
@@ -81,5 +81,5 @@ module _ (runs : List (List ℕ)) (c : ℕ) (hc : c < length runs) (us vs : List
       turn-layout c (set runs c (us ++ vs)) (omega arith) small'
       ∙ ap layout new
       ∙ remove-law us vs x s small
-      ∙ ap₂ (λ (k : ℕ) (l : List ℕ). removeAt (length us) (length vs) (k + length us) l) q
+      ∙ ap₂ (λ (k : ℕ) (l : List ℕ). remove_at (length us) (length vs) (k + length us) l) q
       (ap layout (sym old) ∙ sym (turn-layout c runs (omega arith) h))

@@ -11,7 +11,7 @@ use Rattle.lists.specs.Runs.{total}
 use Rattle.layout.proofs.Laws.{scan-length, scan-append, Gap, lap, forget}
 use Rattle.layout.specs.Decode.{entry}
 use Rattle.layout.proofs.Round.{marks, drained, entry-moved, entry-home, occupied-bit}
-use Rattle.layout.specs.Moves.{ifEmpty, push}
+use Rattle.layout.specs.Moves.{if_empty, push}
 
 -- ---- what waits at an address does not hang on the address's own run
 
@@ -31,7 +31,7 @@ layout-from r s h = ap (λ (q : List Entry). emit q r ∷ scan s (rest q r)) (pe
 
 -- ---- one entry more in the queue
 
-pub used : (w : ℕ) (a b : List ℕ) → 1 ≤ w → ifEmpty w a b ≡ b
+pub used : (w : ℕ) (a b : List ℕ) → 1 ≤ w → if_empty w a b ≡ b
 used zero a b h = absurd (omega arith)
 used (suc w) a b h = refl
 

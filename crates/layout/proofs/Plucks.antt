@@ -13,7 +13,7 @@ use Rattle.layout.specs.Machine.{layout}
 use Rattle.lists.specs.Runs.{total}
 use Rattle.layout.specs.Decode.{turn, place_of, run_at}
 use Rattle.layout.specs.Document.{carry}
-use Rattle.layout.specs.Moves.{wrap, pull, drawing, drawn, removeAt, occs}
+use Rattle.layout.specs.Moves.{wrap, pull, drawing, drawn, remove_at, occs}
 use Rattle.layout.specs.Reading.{index}
 use Rattle.lists.specs.Runs.{erase, has}
 use Rattle.lists.specs.Runs.{rising}
@@ -47,30 +47,30 @@ bits-on (v ∷ l) j m w h g ew e =
 
 -- ---- over the circle begun at the address
 
-only : (l : List ℕ) (u : ℕ) → 0 < length l → set l 0 0 ≡ removeAt u 0 0 l
-unfolding removeAt
+only : (l : List ℕ) (u : ℕ) → 0 < length l → set l 0 0 ≡ remove_at u 0 0 l
+unfolding remove_at
 only [] u h = absurd (omega arith)
 only (w ∷ l) u h = refl
 
-next-home : (l : List ℕ) (u v : ℕ) → 0 < length l → drawing (set l 0 (get_or l 1 0 / 8 * 8 + 1)) 0 1 ≡ removeAt u (suc v) 0 l
-unfolding removeAt drawing
+next-home : (l : List ℕ) (u v : ℕ) → 0 < length l → drawing (set l 0 (get_or l 1 0 / 8 * 8 + 1)) 0 1 ≡ remove_at u (suc v) 0 l
+unfolding remove_at drawing
 next-home [] u v h = absurd (omega arith)
 next-home (w ∷ l) u v h = refl
 
-away-only : (l : List ℕ) (k : ℕ) → 0 < length l → drawing (set l 0 (get_or l 0 0 / 2 * 2)) (occs (take k (drop 1 l))) (suc k) ≡ removeAt 0 0 (suc k) l
-unfolding removeAt drawing drawn
+away-only : (l : List ℕ) (k : ℕ) → 0 < length l → drawing (set l 0 (get_or l 0 0 / 2 * 2)) (occs (take k (drop 1 l))) (suc k) ≡ remove_at 0 0 (suc k) l
+unfolding remove_at drawing drawn
 away-only [] k h = absurd (omega arith)
 away-only (w ∷ l) k h = refl
 
-away-later : (l : List ℕ) (u v k : ℕ) → 0 < length l → drawing l (occs (take k (drop 1 l))) (suc k) ≡ removeAt (suc u) v (suc k) l
-unfolding removeAt drawing drawn
+away-later : (l : List ℕ) (u v k : ℕ) → 0 < length l → drawing l (occs (take k (drop 1 l))) (suc k) ≡ remove_at (suc u) v (suc k) l
+unfolding remove_at drawing drawn
 away-later [] u v k h = absurd (omega arith)
 away-later (w ∷ l) u v k h = refl
 
 away-first : (l : List ℕ) (v k : ℕ) → suc (suc k) < length l
     → drawing (set l (suc k) (get_or l (suc (suc k)) 0 / 8 * 8 + 4 + get_or l (suc k) 0 % 2)) (occs (take k (drop 1 l)) + get_or l (suc k) 0 % 2) (suc (suc k))
-    ≡ removeAt 0 (suc v) (suc k) l
-unfolding removeAt drawing drawn
+    ≡ remove_at 0 (suc v) (suc k) l
+unfolding remove_at drawing drawn
 away-first [] v k h = absurd (omega arith)
 away-first (w ∷ l) v k h =
     let y = get_or l k 0 in
@@ -83,8 +83,8 @@ away-first (w ∷ l) v k h =
     ∙ ap (λ (d : List ℕ). w ∷ (take k l ++ drawn 0 (suc v) m d)) (sym (drop-cons l k 0 (omega arith) ∙ ap (λ (d : List ℕ). y ∷ d) (drop-cons l (suc k) 0 (omega arith))))
 
 -- only whether one comes behind matters
-late : (u a b k : ℕ) (l : List ℕ) → removeAt u (suc a) k l ≡ removeAt u (suc b) k l
-unfolding removeAt drawn
+late : (u a b k : ℕ) (l : List ℕ) → remove_at u (suc a) k l ≡ remove_at u (suc b) k l
+unfolding remove_at drawn
 late u a b k [] = refl
 late u a b zero (w ∷ l) = refl
 late zero a b (suc k) (w ∷ l) = ap (λ (x : List ℕ). w ∷ (take k l ++ x)) (go (drop k l))
@@ -110,36 +110,36 @@ module _ (ws : List ℕ) (c : ℕ) (hc : c < length ws) where
       ap (λ (j : ℕ). turn c (set ws j v)) (ei ∙ ap (λ (m : ℕ). wrap m c k) (sym hn)) ∙ set-wrap ws c k (omega arith) (omega arith) v
 
   module _ (k u v : ℕ) where
-    pub pluck-only : k ≡ 0 → v ≡ 0 → turn c (set ws c 0) ≡ removeAt u v k (turn c ws)
-    pluck-only ek ev = own-set ws c hc 0 ∙ only (turn c ws) u some ∙ ap₂ (λ (a b : ℕ). removeAt u a b (turn c ws)) (sym ev) (sym ek)
+    pub pluck-only : k ≡ 0 → v ≡ 0 → turn c (set ws c 0) ≡ remove_at u v k (turn c ws)
+    pluck-only ek ev = own-set ws c hc 0 ∙ only (turn c ws) u some ∙ ap₂ (λ (a b : ℕ). remove_at u a b (turn c ws)) (sym ev) (sym ek)
 
     pub pluck-home : (ws' : List ℕ) (n i : ℕ) → k ≡ 0 → (v ≡ 0 → ⊥) → length ws ≡ n → 1 < n → i ≡ wrap n c 1
-        → turn c ws' ≡ drawing (turn c (set ws c (get_or ws i 0 / 8 * 8 + 1))) 0 1 → turn c ws' ≡ removeAt u v k (turn c ws)
+        → turn c ws' ≡ drawing (turn c (set ws c (get_or ws i 0 / 8 * 8 + 1))) 0 1 → turn c ws' ≡ remove_at u v k (turn c ws)
     pluck-home ws' n i ek nv hn h1 ei d =
         let e : suc (v - 1) ≡ v = omega arith in
         d ∙ ap (λ (l : List ℕ). drawing l 0 1) (own-set ws c hc (get_or ws i 0 / 8 * 8 + 1) ∙ ap (λ (w : ℕ). set (turn c ws) 0 (w / 8 * 8 + 1)) (word-at 1 n i hn h1 ei))
-        ∙ next-home (turn c ws) u (v - 1) some ∙ ap₂ (λ (a b : ℕ). removeAt u a b (turn c ws)) e (sym ek)
+        ∙ next-home (turn c ws) u (v - 1) some ∙ ap₂ (λ (a b : ℕ). remove_at u a b (turn c ws)) e (sym ek)
 
     module _ (m : ℕ) (nz : k ≡ 0 → ⊥) (em : m ≡ occs (take (k - 1) (drop 1 (turn c ws)))) where
       up : suc (k - 1) ≡ k
       up = omega arith
 
-      pub pluck-away : (ws' : List ℕ) → u ≡ 0 → v ≡ 0 → turn c ws' ≡ drawing (turn c (set ws c (get_or ws c 0 / 2 * 2))) m k → turn c ws' ≡ removeAt u v k (turn c ws)
+      pub pluck-away : (ws' : List ℕ) → u ≡ 0 → v ≡ 0 → turn c ws' ≡ drawing (turn c (set ws c (get_or ws c 0 / 2 * 2))) m k → turn c ws' ≡ remove_at u v k (turn c ws)
       pluck-away ws' eu ev d =
           d ∙ ap₂ (λ (l : List ℕ) (j : ℕ). drawing l m j) (own-set ws c hc (get_or ws c 0 / 2 * 2) ∙ ap (λ (w : ℕ). set (turn c ws) 0 (w / 2 * 2)) (own-word ws c hc)) (sym up)
           ∙ ap (λ (j : ℕ). drawing (set (turn c ws) 0 (get_or (turn c ws) 0 0 / 2 * 2)) j (suc (k - 1))) em
           ∙ away-only (turn c ws) (k - 1) some
-          ∙ ap (λ (j : ℕ). removeAt 0 0 j (turn c ws)) up ∙ ap₂ (λ (a b : ℕ). removeAt a b k (turn c ws)) (sym eu) (sym ev)
+          ∙ ap (λ (j : ℕ). remove_at 0 0 j (turn c ws)) up ∙ ap₂ (λ (a b : ℕ). remove_at a b k (turn c ws)) (sym eu) (sym ev)
 
-      pub pluck-later : (ws' : List ℕ) → (u ≡ 0 → ⊥) → turn c ws' ≡ drawing (turn c ws) m k → turn c ws' ≡ removeAt u v k (turn c ws)
+      pub pluck-later : (ws' : List ℕ) → (u ≡ 0 → ⊥) → turn c ws' ≡ drawing (turn c ws) m k → turn c ws' ≡ remove_at u v k (turn c ws)
       pluck-later ws' nu d =
           let e : suc (u - 1) ≡ u = omega arith in
           d ∙ ap₂ (λ (i j : ℕ). drawing (turn c ws) i j) em (sym up) ∙ away-later (turn c ws) (u - 1) v (k - 1) some
-          ∙ ap₂ (λ (a b : ℕ). removeAt a v b (turn c ws)) e up
+          ∙ ap₂ (λ (a b : ℕ). remove_at a v b (turn c ws)) e up
 
       pub pluck-first : (ws' : List ℕ) (n i j : ℕ) → u ≡ 0 → (v ≡ 0 → ⊥) → length ws ≡ n → k + 1 < n → i ≡ wrap n c k → j ≡ wrap n c (k + 1)
           → turn c ws' ≡ drawing (turn c (set ws i (get_or ws j 0 / 8 * 8 + 4 + get_or ws i 0 % 2))) (m + get_or ws i 0 % 2) (k + 1)
-          → turn c ws' ≡ removeAt u v k (turn c ws)
+          → turn c ws' ≡ remove_at u v k (turn c ws)
       pluck-first ws' n i j eu nv hn hk ei ej d =
           let l = turn c ws in
           let e : suc (v - 1) ≡ v = omega arith in
@@ -153,7 +153,7 @@ module _ (ws : List ℕ) (c : ℕ) (hc : c < length ws) where
           d ∙ ap₂ (λ (a : List ℕ) (b : ℕ). drawing a (m + get_or ws i 0 % 2) b) s k₁
           ∙ ap₂ (λ (a b : ℕ). drawing (set l (suc (k - 1)) x) (a + b % 2) (suc (suc (k - 1)))) em y
           ∙ away-first l (v - 1) (k - 1) (omega (arith, turn-length c ws))
-          ∙ ap₂ (λ (a b : ℕ). removeAt 0 a b l) e up ∙ ap (λ (a : ℕ). removeAt a v k l) (sym eu)
+          ∙ ap₂ (λ (a b : ℕ). remove_at 0 a b l) e up ∙ ap (λ (a : ℕ). remove_at a v k l) (sym eu)
 
 -- ---- the whole
 
@@ -182,7 +182,7 @@ module _ (ws : List ℕ) (c x : ℕ) (hc : c < length ws) (runs : List (List ℕ
       at_x : get_or (get_or runs c []) u 0 ≡ x
       at_x = ap (λ (r : List ℕ). get_or r u 0) (sym run_is) ∙ ex
 
-      pub removed : (ws' : List ℕ) → length ws' ≡ length ws → turn c ws' ≡ removeAt u v k (turn c ws) → ws' ≡ layout (set runs c (erase x (get_or runs c [])))
+      pub removed : (ws' : List ℕ) → length ws' ≡ length ws → turn c ws' ≡ remove_at u v k (turn c ws) → ws' ≡ layout (set runs c (erase x (get_or runs c [])))
       removed ws' hl t =
           let run = get_or runs c [] in
           let us = take u run in
@@ -194,21 +194,21 @@ module _ (ws : List ℕ) (c x : ℕ) (hc : c < length ws) (runs : List (List ℕ
           let new = set runs c (us ++ vs) in
           let ln : length (layout new) ≡ length runs = layout-length new ∙ length-set runs c (us ++ vs) in
           turn-injective c ws' (layout new) (omega arith) (omega (arith, n))
-          (t ∙ behind vs ∙ ap₂ (λ (a b : ℕ). removeAt a (length vs) b (turn c ws)) (sym lu) (ek ∙ ap₂ ◌+◌ place_is (sym lu))
-          ∙ ap (λ (l : List ℕ). removeAt (length us) (length vs) (carry runs c + length us) (turn c l)) el
+          (t ∙ behind vs ∙ ap₂ (λ (a b : ℕ). remove_at a (length vs) b (turn c ws)) (sym lu) (ek ∙ ap₂ ◌+◌ place_is (sym lu))
+          ∙ ap (λ (l : List ℕ). remove_at (length us) (length vs) (carry runs c + length us) (turn c l)) el
           ∙ sym (remove-at runs c in-runs us vs x sp h))
           ∙ ap (λ (r : List ℕ). layout (set runs c r)) er
         where
           nv : length (drop (suc u) (get_or runs c [])) ≡ length (run_at ws c) - suc u
           nv = length-drop (suc u) (get_or runs c []) ∙ ap (λ (r : List ℕ). length r - suc u) (sym run_is)
 
-          go : Dec (u + 1 < length (run_at ws c)) → (vs : List ℕ) → length vs ≡ length (run_at ws c) - suc u → removeAt u v k (turn c ws) ≡ removeAt u (length vs) k (turn c ws)
+          go : Dec (u + 1 < length (run_at ws c)) → (vs : List ℕ) → length vs ≡ length (run_at ws c) - suc u → remove_at u v k (turn c ws) ≡ remove_at u (length vs) k (turn c ws)
           go (yes g) [] e = absurd (omega arith)
-          go (yes g) (y ∷ vs) e = ap (λ (a : ℕ). removeAt u a k (turn c ws)) (ev ∙ ap (λ (b : Bool). cond b 1 0) (lt-ltb (u + 1) (length (run_at ws c)) g)) ∙ late u 0 (length vs) k (turn c ws)
-          go (no g) [] e = ap (λ (a : ℕ). removeAt u a k (turn c ws)) (ev ∙ ap (λ (b : Bool). cond b 1 0) (le-ltb (u + 1) (length (run_at ws c)) (omega arith)))
+          go (yes g) (y ∷ vs) e = ap (λ (a : ℕ). remove_at u a k (turn c ws)) (ev ∙ ap (λ (b : Bool). cond b 1 0) (lt-ltb (u + 1) (length (run_at ws c)) g)) ∙ late u 0 (length vs) k (turn c ws)
+          go (no g) [] e = ap (λ (a : ℕ). remove_at u a k (turn c ws)) (ev ∙ ap (λ (b : Bool). cond b 1 0) (le-ltb (u + 1) (length (run_at ws c)) (omega arith)))
           go (no g) (y ∷ vs) e = absurd (omega arith)
 
-          behind : (vs : List ℕ) → removeAt u v k (turn c ws) ≡ removeAt u (length (drop (suc u) (get_or runs c []))) k (turn c ws)
+          behind : (vs : List ℕ) → remove_at u v k (turn c ws) ≡ remove_at u (length (drop (suc u) (get_or runs c []))) k (turn c ws)
           behind vs = go (dec_lt (u + 1) (length (run_at ws c))) (drop (suc u) (get_or runs c [])) nv
 
       pub held : has x (get_or runs c []) ≡ true

@@ -10,7 +10,7 @@ use Rattle.layout.specs.Machine.{Entry, start, more, occupied, pend, layout}
 use Rattle.lists.specs.Runs.{total}
 use Rattle.layout.specs.Decode.{turn, entry, entry_of, place_of, run_at}
 use Rattle.layout.specs.Document.{carry}
-use Rattle.layout.specs.Moves.{wrap, push, ifEmpty, going, slide, insertAt}
+use Rattle.layout.specs.Moves.{wrap, push, if_empty, going, slide, insert_at}
 use Rattle.layout.specs.Reading.{index}
 use Rattle.lists.specs.Runs.{add}
 use Rattle.layout.proofs.Laws.{scan-length}
@@ -44,18 +44,18 @@ entry_new p = ap₂ entry_of a b
 
 -- ---- over the circle begun at the address
 
-home-empty : (l : List ℕ) (u o x : ℕ) → 0 < length l → get_or l 0 0 ≡ 0 → set l 0 (x * 8 + 1) ≡ insertAt u o 0 x l
-unfolding insertAt
+home-empty : (l : List ℕ) (u o x : ℕ) → 0 < length l → get_or l 0 0 ≡ 0 → set l 0 (x * 8 + 1) ≡ insert_at u o 0 x l
+unfolding insert_at
 home-empty [] u o x h z = absurd (omega arith)
-home-empty (w ∷ l) u o x h z = ap (λ (b : ℕ). (x * 8 + 1) ∷ ifEmpty b l (push (more (w / 8)) l)) (sym z)
+home-empty (w ∷ l) u o x h z = ap (λ (b : ℕ). (x * 8 + 1) ∷ if_empty b l (push (more (w / 8)) l)) (sym z)
 
-home-used : (l : List ℕ) (u o x : ℕ) → 0 < length l → (get_or l 0 0 ≡ 0 → ⊥) → going (set l 0 (x * 8 + 1)) (get_or l 0 0 / 8 * 8 + 2) 1 ≡ insertAt u o 0 x l
-unfolding insertAt going
+home-used : (l : List ℕ) (u o x : ℕ) → 0 < length l → (get_or l 0 0 ≡ 0 → ⊥) → going (set l 0 (x * 8 + 1)) (get_or l 0 0 / 8 * 8 + 2) 1 ≡ insert_at u o 0 x l
+unfolding insert_at going
 home-used [] u o x h n = absurd (omega arith)
 home-used (w ∷ l) u o x h n =
     ap (λ (e : Entry). (x * 8 + 1) ∷ push e l) (entry-late (w / 8)) ∙ ap (λ (t : List ℕ). (x * 8 + 1) ∷ t) (go w n (push (more (w / 8)) l))
   where
-    go : (w : ℕ) → (w ≡ 0 → ⊥) → (b : List ℕ) → b ≡ ifEmpty w l b
+    go : (w : ℕ) → (w ≡ 0 → ⊥) → (b : List ℕ) → b ≡ if_empty w l b
     go zero n b = absurd (n refl)
     go (suc w) n b = refl
 
@@ -65,24 +65,24 @@ unfolding going
 away [] k v h f p e = absurd (omega arith)
 away (w ∷ l) k v h f p e = ap (λ (t : List ℕ). v ∷ (take k l ++ t)) (e (drop k l))
 
-insert-away : (l : List ℕ) (u o k x : ℕ) → 0 < length l → insertAt u o (suc k) x l ≡ (get_or l 0 0 / 2 * 2 + 1) ∷ (take k (drop 1 l) ++ slide u o x (drop k (drop 1 l)))
-unfolding insertAt
+insert-away : (l : List ℕ) (u o k x : ℕ) → 0 < length l → insert_at u o (suc k) x l ≡ (get_or l 0 0 / 2 * 2 + 1) ∷ (take k (drop 1 l) ++ slide u o x (drop k (drop 1 l)))
+unfolding insert_at
 insert-away [] u o k x h = absurd (omega arith)
 insert-away (w ∷ l) u o k x h = refl
 
-away-new : (l : List ℕ) (k x : ℕ) → 0 < length l → going (set l 0 (get_or l 0 0 / 2 * 2 + 1)) (x * 8) (suc k) ≡ insertAt 0 0 (suc k) x l
+away-new : (l : List ℕ) (k x : ℕ) → 0 < length l → going (set l 0 (get_or l 0 0 / 2 * 2 + 1)) (x * 8) (suc k) ≡ insert_at 0 0 (suc k) x l
 unfolding slide
 away-new l k x h =
     away l k (get_or l 0 0 / 2 * 2 + 1) (x * 8) (push (start x)) h (λ t. ap (λ (e : Entry). push e t) (entry_new x)) ∙ sym (insert-away l 0 0 k x h)
 
-away-later : (l : List ℕ) (u o k x : ℕ) → 0 < length l → going (set l 0 (get_or l 0 0 / 2 * 2 + 1)) (x * 8 + 2) (suc k) ≡ insertAt (suc u) o (suc k) x l
+away-later : (l : List ℕ) (u o k x : ℕ) → 0 < length l → going (set l 0 (get_or l 0 0 / 2 * 2 + 1)) (x * 8 + 2) (suc k) ≡ insert_at (suc u) o (suc k) x l
 unfolding slide
 away-later l u o k x h =
     away l k (get_or l 0 0 / 2 * 2 + 1) (x * 8 + 2) (push (more x)) h (λ t. ap (λ (e : Entry). push e t) (entry-late x)) ∙ sym (insert-away l (suc u) o k x h)
 
 away-head : (l : List ℕ) (o k x : ℕ) → suc k < length l
-    → going (set (set l 0 (get_or l 0 0 / 2 * 2 + 1)) (suc k) (x * 8 + 4 + get_or l (suc k) 0 % 2)) (get_or l (suc k) 0 / 8 * 8 + 2) (suc (suc k)) ≡ insertAt 0 (suc o) (suc k) x l
-unfolding going slide insertAt
+    → going (set (set l 0 (get_or l 0 0 / 2 * 2 + 1)) (suc k) (x * 8 + 4 + get_or l (suc k) 0 % 2)) (get_or l (suc k) 0 / 8 * 8 + 2) (suc (suc k)) ≡ insert_at 0 (suc o) (suc k) x l
+unfolding going slide insert_at
 away-head [] o k x h = absurd (omega arith)
 away-head (w ∷ l) o k x h =
     let v = get_or l k 0 in
@@ -107,15 +107,15 @@ module _ (ws : List ℕ) (c : ℕ) (hc : c < length ws) where
   some = omega (arith, turn-length c ws)
 
   module _ (k u o x : ℕ) where
-    pub put-home : k ≡ 0 → get_or ws c 0 ≡ 0 → turn c (set ws c (x * 8 + 1)) ≡ insertAt u o k x (turn c ws)
-    put-home e z = own-set (x * 8 + 1) ∙ home-empty (turn c ws) u o x some (sym own-word ∙ z) ∙ ap (λ (j : ℕ). insertAt u o j x (turn c ws)) (sym e)
+    pub put-home : k ≡ 0 → get_or ws c 0 ≡ 0 → turn c (set ws c (x * 8 + 1)) ≡ insert_at u o k x (turn c ws)
+    put-home e z = own-set (x * 8 + 1) ∙ home-empty (turn c ws) u o x some (sym own-word ∙ z) ∙ ap (λ (j : ℕ). insert_at u o j x (turn c ws)) (sym e)
 
     pub put-push : (ws' : List ℕ) → k ≡ 0 → (get_or ws c 0 ≡ 0 → ⊥) → turn c ws' ≡ going (turn c (set ws c (x * 8 + 1))) (get_or ws c 0 / 8 * 8 + 2) 1
-        → turn c ws' ≡ insertAt u o k x (turn c ws)
+        → turn c ws' ≡ insert_at u o k x (turn c ws)
     put-push ws' e n d =
         d ∙ ap₂ (λ (l : List ℕ) (w : ℕ). going l (w / 8 * 8 + 2) 1) (own-set (x * 8 + 1)) own-word
         ∙ home-used (turn c ws) u o x some (λ z. n (own-word ∙ z))
-        ∙ ap (λ (j : ℕ). insertAt u o j x (turn c ws)) (sym e)
+        ∙ ap (λ (j : ℕ). insert_at u o j x (turn c ws)) (sym e)
 
     mark : ℕ
     mark = get_or ws c 0 / 2 * 2 + 1
@@ -128,22 +128,22 @@ module _ (ws : List ℕ) (c : ℕ) (hc : c < length ws) where
       up = omega arith
 
       pub put-new : (ws' : List ℕ) → u ≡ 0 → o ≡ 0 → turn c ws' ≡ going (turn c (set ws c (get_or ws c 0 / 2 * 2 + 1))) (x * 8) k
-          → turn c ws' ≡ insertAt u o k x (turn c ws)
+          → turn c ws' ≡ insert_at u o k x (turn c ws)
       put-new ws' eu eo d =
           d ∙ ap₂ (λ (l : List ℕ) (j : ℕ). going l (x * 8) j) marked up ∙ away-new (turn c ws) (k - 1) x some
-          ∙ ap (λ (j : ℕ). insertAt 0 0 j x (turn c ws)) (sym up) ∙ ap₂ (λ (a b : ℕ). insertAt a b k x (turn c ws)) (sym eu) (sym eo)
+          ∙ ap (λ (j : ℕ). insert_at 0 0 j x (turn c ws)) (sym up) ∙ ap₂ (λ (a b : ℕ). insert_at a b k x (turn c ws)) (sym eu) (sym eo)
 
       pub put-later : (ws' : List ℕ) → (u ≡ 0 → ⊥) → turn c ws' ≡ going (turn c (set ws c (get_or ws c 0 / 2 * 2 + 1))) (x * 8 + 2) k
-          → turn c ws' ≡ insertAt u o k x (turn c ws)
+          → turn c ws' ≡ insert_at u o k x (turn c ws)
       put-later ws' nu d =
           let v : suc (u - 1) ≡ u = omega arith in
           d ∙ ap₂ (λ (l : List ℕ) (j : ℕ). going l (x * 8 + 2) j) marked up ∙ away-later (turn c ws) (u - 1) o (k - 1) x some
-          ∙ ap₂ (λ (a j : ℕ). insertAt a o j x (turn c ws)) v (sym up)
+          ∙ ap₂ (λ (a j : ℕ). insert_at a o j x (turn c ws)) v (sym up)
 
       -- ws₁ is with the mark, and i the slot of the run's first entry
       pub put-head : (ws' ws₁ : List ℕ) (n i : ℕ) → ws₁ ≡ set ws c (get_or ws c 0 / 2 * 2 + 1) → length ws ≡ n → k < n → i ≡ wrap n c k → u ≡ 0 → (o ≡ 0 → ⊥)
           → turn c ws' ≡ going (turn c (set ws₁ i (x * 8 + 4 + get_or ws₁ i 0 % 2))) (get_or ws₁ i 0 / 8 * 8 + 2) (k + 1)
-          → turn c ws' ≡ insertAt u o k x (turn c ws)
+          → turn c ws' ≡ insert_at u o k x (turn c ws)
       put-head ws' ws₁ n i e₁ hn hk ei eu oz d =
           let l = turn c ws in
           let n₁ : length ws₁ ≡ length ws = ap length e₁ ∙ length-set ws c (get_or ws c 0 / 2 * 2 + 1) in
@@ -162,7 +162,7 @@ module _ (ws : List ℕ) (c : ℕ) (hc : c < length ws) where
           d ∙ ap₂ (λ (t : List ℕ) (j : ℕ). going t (get_or ws₁ i 0 / 8 * 8 + 2) j) s j₁
           ∙ ap (λ (w : ℕ). going (set (set l 0 (get_or l 0 0 / 2 * 2 + 1)) (suc (k - 1)) (x * 8 + 4 + get_or l (suc (k - 1)) 0 % 2)) (w / 8 * 8 + 2) (suc (suc (k - 1)))) g
           ∙ away-head l (o - 1) (k - 1) x (omega (arith, turn-length c ws))
-          ∙ ap₂ (λ (a j : ℕ). insertAt 0 a j x l) o₁ (sym up) ∙ ap (λ (a : ℕ). insertAt a o k x l) (sym eu)
+          ∙ ap₂ (λ (a j : ℕ). insert_at 0 a j x l) o₁ (sym up) ∙ ap (λ (a : ℕ). insert_at a o k x l) (sym eu)
         where
           get-past : (l : List ℕ) (j v : ℕ) → get_or (set l 0 v) (suc j) 0 ≡ get_or l (suc j) 0
           get-past [] j v = refl
@@ -209,7 +209,7 @@ module _ (ws : List ℕ) (c x d u o : ℕ) (hc : c < length ws) (ed : d ≡ plac
   unfolding run
   insert-fits = omega (arith, n, d-carry, u-index, index-le (leb x) run, run_room runs c in-runs fits)
 
-  pub inserted : (ws' : List ℕ) → length ws' ≡ length ws → turn c ws' ≡ insertAt u o (d + u) x (turn c ws) → ws' ≡ layout (set runs c (add x (get_or runs c [])))
+  pub inserted : (ws' : List ℕ) → length ws' ≡ length ws → turn c ws' ≡ insert_at u o (d + u) x (turn c ws) → ws' ≡ layout (set runs c (add x (get_or runs c [])))
   unfolding run
   inserted ws' hl t =
       let us = take u run in
@@ -222,7 +222,7 @@ module _ (ws : List ℕ) (c x d u o : ℕ) (hc : c < length ws) (ed : d ≡ plac
       let ln : length (layout new) ≡ length runs = layout-length new ∙ length-set runs c (us ++ (x ∷ vs)) in
       turn-injective c ws' (layout new) (omega arith) (omega (arith, n))
       (t
-      ∙ ap₂ (λ (a b : ℕ). insertAt a b (d + a) x (turn c ws)) (sym lu) oc
-      ∙ ap₂ (λ (a : ℕ) (l : List ℕ). insertAt (length us) (occupied (us ++ vs)) (a + length us) x (turn c l)) d-carry el
+      ∙ ap₂ (λ (a b : ℕ). insert_at a b (d + a) x (turn c ws)) (sym lu) oc
+      ∙ ap₂ (λ (a : ℕ) (l : List ℕ). insert_at (length us) (occupied (us ++ vs)) (a + length us) x (turn c l)) d-carry el
       ∙ sym (insert-at runs c in-runs us vs x (sym sp) h))
       ∙ ap (λ (r : List ℕ). layout (set runs c r)) ad

@@ -11,12 +11,12 @@ use Rattle.layout.proofs.Laws.{rest-length, Gap, lap, seam}
 use Rattle.layout.specs.Decode.{entry}
 use Rattle.layout.proofs.Round.{marks, filled, entry-moved, occupied-bit, shifted-bit, home-bit}
 use Rattle.layout.proofs.Insert.{replaced}
-use Rattle.layout.specs.Moves.{choose, closer, isStart, pull}
+use Rattle.layout.specs.Moves.{choose, closer, is_start, pull}
 
 -- the runs that begin in a queue
 unfoldable pub starts : List Entry → ℕ
 starts [] = 0
-starts (e ∷ q) = isStart e + starts q
+starts (e ∷ q) = is_start e + starts q
 
 pub starts-append : (a b : List Entry) → starts (a ++ b) ≡ starts a + starts b
 unfolding starts
@@ -57,22 +57,22 @@ alone [] w n = refl
 alone (r ∷ s) w n =
     let v = emit [] r in
     let t = scan s (rest [] r) in
-    ap (λ (k : ℕ). choose k (0 ∷ v ∷ t) (closer (entry v) n w ∷ pull (n + w % 2 - isStart (entry v)) (v ∷ t))) (home-bit r)
+    ap (λ (k : ℕ). choose k (0 ∷ v ∷ t) (closer (entry v) n w ∷ pull (n + w % 2 - is_start (entry v)) (v ∷ t))) (home-bit r)
 
 -- what is pulled where k comes next
 next : (r : List ℕ) (s : List (List ℕ)) (k : Entry) (q : List Entry) (w n : ℕ)
-    → pull n (w ∷ scan (r ∷ s) (k ∷ q)) ≡ closer k n w ∷ pull (n + w % 2 - isStart k) (scan (r ∷ s) (k ∷ q))
+    → pull n (w ∷ scan (r ∷ s) (k ∷ q)) ≡ closer k n w ∷ pull (n + w % 2 - is_start k) (scan (r ∷ s) (k ∷ q))
 unfolding pull scan emit
 next r s k q w n =
     let v = code k + 4 + occupied r in
     let t = scan s (rest (k ∷ q) r) in
-    ap (λ (j : ℕ). choose j (0 ∷ v ∷ t) (closer (entry v) n w ∷ pull (n + w % 2 - isStart (entry v)) (v ∷ t))) (shifted-bit k q r)
-    ∙ ap (λ (j : Entry). closer j n w ∷ pull (n + w % 2 - isStart j) (v ∷ t)) (entry-moved k r)
+    ap (λ (j : ℕ). choose j (0 ∷ v ∷ t) (closer (entry v) n w ∷ pull (n + w % 2 - is_start (entry v)) (v ∷ t))) (shifted-bit k q r)
+    ∙ ap (λ (j : Entry). closer j n w ∷ pull (n + w % 2 - is_start j) (v ∷ t)) (entry-moved k r)
 
 pub no_gap : (q : List Entry) → Gap [] q → ⊥
 no_gap q g = omega (arith, ap length g.split, length-append g.before ([] ∷ g.after))
 
-closer-moved : (h : Entry) (n w : ℕ) → isStart h ≤ n → closer h n w ≡ code h + 4 + w % 2
+closer-moved : (h : Entry) (n w : ℕ) → is_start h ≤ n → closer h n w ≡ code h + 4 + w % 2
 closer-moved (start p) zero w l = absurd (omega arith)
 closer-moved (start p) (suc n) w l = refl
 closer-moved (more p) n w l = refl
@@ -93,10 +93,10 @@ pulled (t ∷ []) e (h ∷ q) g = absurd (no_gap _ (gap-tail t [] e (h ∷ q) g)
 pulled (t ∷ (r ∷ s)) e (h ∷ q) g =
     let w = code e + 4 + occupied t in
     let b : w % 2 ≡ occupied t = occupied-bit (e ∷ (h ∷ q)) t in
-    let n : isStart h + starts q + w % 2 - isStart h ≡ starts (q ++ mark t) = omega (arith, starts-append q (mark t), starts-mark t) in
-    next r s h (q ++ mark t) w (isStart h + starts q)
+    let n : is_start h + starts q + w % 2 - is_start h ≡ starts (q ++ mark t) = omega (arith, starts-append q (mark t), starts-mark t) in
+    next r s h (q ++ mark t) w (is_start h + starts q)
     ∙ ap₂ (λ (a : ℕ) (l : List ℕ). a ∷ l)
-    (closer-moved h (isStart h + starts q) w (omega arith) ∙ ap (λ (k : ℕ). code h + 4 + k) b)
+    (closer-moved h (is_start h + starts q) w (omega arith) ∙ ap (λ (k : ℕ). code h + 4 + k) b)
     (ap (λ (k : ℕ). pull k (scan (r ∷ s) (h ∷ (q ++ mark t)))) n ∙ pulled (r ∷ s) h (q ++ mark t) (gap-tail t (r ∷ s) e (h ∷ q) g))
 
 -- the entry after p goes: the words that p fills stay

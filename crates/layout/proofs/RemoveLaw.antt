@@ -12,7 +12,7 @@ use Rattle.layout.proofs.Round.{marks, filled, occs-scan, occupied-bit}
 use Rattle.layout.proofs.Same.{room}
 use Rattle.layout.proofs.Insert.{pend-others, layout-from, map_more, replaced}
 use Rattle.layout.proofs.Remove.{starts, starts-append, starts_more, starts-mark, starts-marks, pulled, take_out, gap-skip, gap-tail, gap_here, no_gap}
-use Rattle.layout.specs.Moves.{drawn, occs, pull, removeAt}
+use Rattle.layout.specs.Moves.{drawn, occs, pull, remove_at}
 
 occupied-le : (r : List ℕ) → occupied r ≤ 1
 occupied-le [] = omega arith
@@ -72,8 +72,8 @@ head_of (r ∷ s) y q g = omega (arith, occupied-le r)
 
 law : (q : List Entry) (us vs : List ℕ) (x : ℕ) (s : List (List ℕ)) → length q + length us ≤ length s → Gap s (rest q (us ++ (x ∷ vs)))
     → emit q (us ++ vs) ∷ scan s (rest q (us ++ vs))
-    ≡ removeAt (length us) (length vs) (length q + length us) (emit q (us ++ (x ∷ vs)) ∷ scan s (rest q (us ++ (x ∷ vs))))
-unfolding removeAt drawn emit rest mark
+    ≡ remove_at (length us) (length vs) (length q + length us) (emit q (us ++ (x ∷ vs)) ∷ scan s (rest q (us ++ (x ∷ vs))))
+unfolding remove_at drawn emit rest mark
 law [] [] [] x s h g = refl
 law [] [] (y ∷ vs) x s h g =
     ap₂ (λ (i : ℕ) (l : List ℕ). i ∷ l) (head_of s y (map more vs) g)
@@ -88,11 +88,11 @@ law [] (u ∷ us) vs x s h g =
     ∙ ap (λ (l : List ℕ). (u * 8 + 1) ∷ l)
     (out s p n (length-map us more) (omega arith) (more x) (map more vs) (starts_more vs) (subst (λ (l : List Entry). Gap s l) e g)
     ∙ ap (λ (l : List Entry). take n (scan s l) ++ pull (occs (take n (scan s l))) (drop n (scan s l))) (sym e))
-    ∙ ap (λ (j : ℕ). removeAt (suc n) (length vs) j ((u * 8 + 1) ∷ scan s (map more (us ++ (x ∷ vs))))) k
+    ∙ ap (λ (j : ℕ). remove_at (suc n) (length vs) j ((u * 8 + 1) ∷ scan s (map more (us ++ (x ∷ vs))))) k
 law (i ∷ q) [] [] x s h g =
     let k : suc (length q) ≡ suc (length q) + 0 = omega arith in
     ap₂ (λ (w : ℕ) (l : List ℕ). w ∷ l) (clear-bit i) (out s q (length q) refl (omega arith) (start x) [] (unfold starts in refl) g)
-    ∙ ap (λ (j : ℕ). removeAt 0 0 j ((code i + 4 + 1) ∷ scan s (q ++ (start x ∷ [])))) k
+    ∙ ap (λ (j : ℕ). remove_at 0 0 j ((code i + 4 + 1) ∷ scan s (q ++ (start x ∷ [])))) k
 law (i ∷ q) [] (y ∷ vs) x s h g =
     let n = length q in
     let hq : n ≤ length s = omega arith in
@@ -105,7 +105,7 @@ law (i ∷ q) [] (y ∷ vs) x s h g =
     ap (λ (l : List ℕ). (code i + 4 + 1) ∷ l)
     (replaced s q hq old (start y ∷ map more vs) (drawn 0 (suc (length vs)) (occs (take n (scan s (q ++ old)))))
     (next-first (drop n s) x y (map more vs ++ m) (occs (take n (scan s (q ++ old)))) (length vs) c (gap-drop s q old hq g)))
-    ∙ ap (λ (j : ℕ). removeAt 0 (suc (length vs)) j ((code i + 4 + 1) ∷ scan s (q ++ old))) k
+    ∙ ap (λ (j : ℕ). remove_at 0 (suc (length vs)) j ((code i + 4 + 1) ∷ scan s (q ++ old))) k
 law (i ∷ q) (u ∷ us) vs x s h g =
     let p = q ++ (start u ∷ map more us) in
     let n = length q + suc (length us) in
@@ -119,11 +119,11 @@ law (i ∷ q) (u ∷ us) vs x s h g =
     (ap (scan s) f
     ∙ out s p n ep (omega arith) (more x) (map more vs) (starts_more vs) (subst (λ (l : List Entry). Gap s l) e g)
     ∙ ap (λ (l : List Entry). take n (scan s l) ++ pull (occs (take n (scan s l))) (drop n (scan s l))) (sym e))
-    ∙ ap (λ (j : ℕ). removeAt (suc (length us)) (length vs) j ((code i + 4 + 1) ∷ scan s (q ++ (start u ∷ map more (us ++ (x ∷ vs)))))) k
+    ∙ ap (λ (j : ℕ). remove_at (suc (length us)) (length vs) j ((code i + 4 + 1) ∷ scan s (q ++ (start u ∷ map more (us ++ (x ∷ vs)))))) k
 
 -- THE REMOVE: of the circle begun at the address, whose carry is length (left s [])
 pub remove-law : (us vs : List ℕ) (x : ℕ) (s : List (List ℕ)) → total ((us ++ (x ∷ vs)) ∷ s) < length ((us ++ (x ∷ vs)) ∷ s)
-    → layout ((us ++ vs) ∷ s) ≡ removeAt (length us) (length vs) (length (left s []) + length us) (layout ((us ++ (x ∷ vs)) ∷ s))
+    → layout ((us ++ vs) ∷ s) ≡ remove_at (length us) (length vs) (length (left s []) + length us) (layout ((us ++ (x ∷ vs)) ∷ s))
 unfolding total
 remove-law us vs x s h =
     let q = left s [] in
@@ -136,4 +136,4 @@ remove-law us vs x s h =
     let g : Gap s (rest q r) = subst (λ (p : List Entry). Gap s (rest p r)) po (gap_here r s h (omega arith)) in
     layout-from (us ++ vs) s h'
     ∙ law q us vs x s (omega arith) g
-    ∙ ap (removeAt (length us) (length vs) (length q + length us)) (sym (layout-from r s h))
+    ∙ ap (remove_at (length us) (length vs) (length q + length us)) (sym (layout-from r s h))

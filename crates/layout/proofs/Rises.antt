@@ -2,7 +2,7 @@
 use mathlib.Core.List.{List, [], ◌∷◌}
 use Prim.Native.Nat.{ℕ, ◌≤◌}
 use lib.Dec.{T, leb, leb→le}
-use Rattle.lists.specs.Runs.{rising, risesFrom}
+use Rattle.lists.specs.Runs.{rising, rises_from}
 use Rattle.lists.proofs.Tests.{and_left, and_right}
 
 unfoldable pub Above : ℕ → List ℕ → Type 0
@@ -13,11 +13,11 @@ unfoldable pub Rising : List ℕ → Type 0
 Rising [] = Unit {0}
 Rising (x ∷ xs) = Above x xs × Rising xs
 
-from-test : (x : ℕ) (xs : List ℕ) → T (risesFrom x xs) → Above x xs × Rising xs
-unfolding risesFrom Above Rising
+from-test : (x : ℕ) (xs : List ℕ) → T (rises_from x xs) → Above x xs × Rising xs
+unfolding rises_from Above Rising
 from-test x [] t = (tt, tt)
 from-test x (y ∷ ys) t =
-    (leb→le x y (and_left (leb x y) (risesFrom y ys) t), from-test y ys (and_right (leb x y) (risesFrom y ys) t))
+    (leb→le x y (and_left (leb x y) (rises_from y ys) t), from-test y ys (and_right (leb x y) (rises_from y ys) t))
 
 pub rising-facts : (r : List ℕ) → T (rising r) → Rising r
 unfolding rising Rising

@@ -9,7 +9,7 @@ use lib.Seq.{take_at, drop_at, length-take-le, split_at}
 use Rattle.layout.specs.Machine.{Entry, start, more, code, occupied, mark, emit, rest, scan, left, pend, layout}
 use Rattle.lists.specs.Runs.{total}
 use Rattle.layout.proofs.Laws.{rest-length, scan-length, left-append, scan-append, layout-split, total-append, seam, left-room}
-use Rattle.layout.specs.Decode.{turn, entry_of, entry, stop, stop', steps, passed, mores, nth, firstMark, skip, ahead, lastPlace, reading, lastRun, run_at, runsFrom, decode}
+use Rattle.layout.specs.Decode.{turn, entry_of, entry, stop, stop', steps, passed, mores, nth, first_mark, skip, ahead, last_place, reading, last_run, run_at, runs_from, decode}
 use Rattle.layout.specs.Moves.{occs}
 
 pub map-append : (a b : List ℕ) → map entry (a ++ b) ≡ map entry a ++ map entry b
@@ -256,7 +256,7 @@ unfolding passed
 passed-of p x w z s =
     ap passed (reverse_aux-append p (w ∷ x) [])
     ∙ passed-back x w (reverse_aux p []) s
-    ∙ ap (λ (k : ℕ). fronts (w ∷ x) + stop k (firstMark (reverse_aux p []) + passed (reverse_aux p []))) z
+    ∙ ap (λ (k : ℕ). fronts (w ∷ x) + stop k (first_mark (reverse_aux p []) + passed (reverse_aux p []))) z
     ∙ (omega arith)
 
 -- ---- the words from a cluster's start on
@@ -415,8 +415,8 @@ fresh-run [] t f = f
 fresh-run (x ∷ xs) t f = refl
 
 -- the run begins, or would begin, as many slots on as wait on arrival
-pub last-place : (ys : List (List ℕ)) (r : List ℕ) → total (ys ++ (r ∷ [])) < length (ys ++ (r ∷ [])) → lastPlace (layout (ys ++ (r ∷ []))) ≡ length (left ys (pend (ys ++ (r ∷ []))))
-unfolding lastPlace
+pub last-place : (ys : List (List ℕ)) (r : List ℕ) → total (ys ++ (r ∷ [])) < length (ys ++ (r ∷ [])) → last_place (layout (ys ++ (r ∷ []))) ≡ length (left ys (pend (ys ++ (r ∷ []))))
+unfolding last_place
 last-place ys r h =
     let w = walked ys r h in
     let a : skip (passed (reverse (layout (ys ++ (r ∷ []))))) (ahead (layout (ys ++ (r ∷ [])))) ≡ total w.own =
@@ -431,8 +431,8 @@ layout-last ys r =
     ∙ ap (λ (k : ℕ). k % 2) (last_bit (scan ys q) (emit (left ys q) r))
     ∙ occupied-bit (left ys q) r
 
-pub last-run : (ys : List (List ℕ)) (r : List ℕ) → total (ys ++ (r ∷ [])) < length (ys ++ (r ∷ [])) → lastRun (layout (ys ++ (r ∷ []))) ≡ r
-unfolding lastRun
+pub last-run : (ys : List (List ℕ)) (r : List ℕ) → total (ys ++ (r ∷ [])) < length (ys ++ (r ∷ [])) → last_run (layout (ys ++ (r ∷ []))) ≡ r
+unfolding last_run
 last-run ys [] h = ap (λ (k : ℕ). stop' k (reading (layout (ys ++ ([] ∷ []))))) (layout-last ys [])
 last-run ys (x ∷ xs) h =
     ap (λ (k : ℕ). stop' k (reading (layout (ys ++ ((x ∷ xs) ∷ []))))) (layout-last ys (x ∷ xs)) ∙ run-found ys x xs h
@@ -464,11 +464,11 @@ run-at runs c hc h =
     let ht : total (take (suc c) runs ++ b) ≡ total runs = ap total (take-append-drop (suc c) runs) in
     let h₁ : total (turn (suc c) runs) < length (turn (suc c) runs) =
     omega (arith, hl, ht, total-append (take (suc c) runs) b, total-append b (take (suc c) runs), length-append (take (suc c) runs) b, length-append b (take (suc c) runs)) in
-    ap lastRun (turn-layout (suc c) runs hc h ∙ ap layout e) ∙ last-run (b ++ a) r (rw e at h₁)
+    ap last_run (turn-layout (suc c) runs hc h ∙ ap layout e) ∙ last-run (b ++ a) r (rw e at h₁)
 
 -- decode ∘ layout is the identity
-runs-from : (runs : List (List ℕ)) → total runs < length runs → (n c : ℕ) → c + n ≡ length runs → runsFrom (layout runs) c n ≡ drop c runs
-unfolding runsFrom
+runs-from : (runs : List (List ℕ)) → total runs < length runs → (n c : ℕ) → c + n ≡ length runs → runs_from (layout runs) c n ≡ drop c runs
+unfolding runs_from
 runs-from runs h zero c e = sym (lib.ListN.drop_of_length-le runs {i = c} (omega arith))
 runs-from runs h (suc n) c e =
     ap₂ (λ (r : List ℕ) (l : List (List ℕ)). r ∷ l) (run-at runs c (omega arith) h) (runs-from runs h n (suc c) (omega arith))
@@ -477,7 +477,7 @@ runs-from runs h (suc n) c e =
 pub decode-layout : (runs : List (List ℕ)) → total runs < length runs → decode (layout runs) ≡ runs
 unfolding decode layout
 decode-layout runs h =
-    ap (runsFrom (layout runs) 0) (scan-length runs (pend runs)) ∙ runs-from runs h (length runs) 0 (omega arith)
+    ap (runs_from (layout runs) 0) (scan-length runs (pend runs)) ∙ runs-from runs h (length runs) 0 (omega arith)
 
 -- so two layouts that are the same are of the same runs
 pub layout-injective : (a b : List (List ℕ)) → total a < length a → total b < length b → layout a ≡ layout b → a ≡ b

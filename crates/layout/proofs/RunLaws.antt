@@ -10,9 +10,9 @@ use borrow.Author.Tests.{lt-ltb, le-ltb, le-leb}
 use lib.ListN.{length, drop, get_or, length-drop}
 use lib.Seq.{drop-cons, take-length, drop-length}
 use Rattle.layout.specs.Machine.{Entry, start, more}
-use Rattle.layout.specs.Decode.{turn, entry, entry_of, stop', steps, passed, mores, nth, skip, ahead, reading, lastRun, lastPlace, run_at, place_of}
+use Rattle.layout.specs.Decode.{turn, entry, entry_of, stop', steps, passed, mores, nth, skip, ahead, reading, last_run, last_place, run_at, place_of}
 use Rattle.layout.specs.Moves.{wrap, back, lefts, rights}
-use Rattle.layout.specs.Reading.{payloadOf, here, run_from, home_of}
+use Rattle.layout.specs.Reading.{payload_of, here, run_from, home_of}
 use Rattle.layout.proofs.Same.{turn-length}
 use Rattle.layout.proofs.Bridge.{turn-home, get-back}
 use Rattle.layout.proofs.Walks.{rights-length, read}
@@ -70,7 +70,7 @@ module _ (ws : List ℕ) (c k m b s : ℕ) (hc : c < length ws) (h : 1 < length 
       ∙ sym (ap₂ nth em (homed ws c k b hc h ek eb))
 
   pub carried : s - k ≡ place_of ws c
-  unfolding place_of lastPlace
+  unfolding place_of last_place
   carried = sym (ap₂ ◌-◌ (ap₂ skip em (homed ws c k b hc h ek eb) ∙ es) ek)
 
 -- the run of an address whose occupied bit is 0, and of one whose bit is 1
@@ -81,11 +81,11 @@ module _ (ws : List ℕ) (c : ℕ) (hc : c < length ws) where
       ap (λ (i : ℕ). get_or ws i 0) (sym e) ∙ get-back ws c 0 hc (omega arith) 0
 
   pub run_none : get_or ws c 0 % 2 ≡ 0 → run_at ws c ≡ []
-  unfolding run_at lastRun
+  unfolding run_at last_run
   run_none z = ap (λ (b : ℕ). stop' b (reading (turn (suc c) ws))) (ap (λ (w : ℕ). w % 2) (sym first) ∙ z)
 
   pub run-some : get_or ws c 0 % 2 ≡ 1 → run_at ws c ≡ reading (turn (suc c) ws)
-  unfolding run_at lastRun
+  unfolding run_at last_run
   run-some z = ap (λ (b : ℕ). stop' b (reading (turn (suc c) ws))) (ap (λ (w : ℕ). w % 2) (sym first) ∙ z)
 
 -- ---- entry t of a run
@@ -131,7 +131,7 @@ mores-on (start q ∷ es) zero p h g e = absurd (distinct e)
 
     distinct : start q ≡ more p → ⊥
     distinct d = omega (arith, ap tag d)
-mores-on (more q ∷ es) zero p h g e = (omega arith, ap payloadOf e)
+mores-on (more q ∷ es) zero p h g e = (omega arith, ap payload_of e)
 mores-on (more q ∷ es) (suc s) p h g e =
     let r = mores-on es s p (omega arith) (omega arith) e in
     (omega (arith, r.0), r.1)
@@ -149,12 +149,12 @@ module _ (l : List Entry) (f t : ℕ) (h : f + t < length l) where
       let i : suc f + s ≡ f + t = omega arith in
       lib.Seq.get_or-drop (suc f) l s (start 0) ∙ ap (λ (j : ℕ). get_or l j (start 0)) i
 
-  pub entry_first : t ≡ 0 → Answer (here (drop f l)) t true (payloadOf (get_or l (f + t) (start 0)))
+  pub entry_first : t ≡ 0 → Answer (here (drop f l)) t true (payload_of (get_or l (f + t) (start 0)))
   unfolding here
   entry_first z =
       let e : f ≡ f + t = omega arith in (
         sym (lt-ltb t (length (here (drop f l))) (omega (arith, ap (λ (d : List Entry). length (here d)) cut))),
-        ap (λ (j : ℕ). payloadOf (get_or l j (start 0))) (sym e) ∙ sym (ap₂ (λ (j : ℕ) (d : List Entry). get_or (here d) j 0) z cut),
+        ap (λ (j : ℕ). payload_of (get_or l j (start 0))) (sym e) ∙ sym (ap₂ (λ (j : ℕ) (d : List Entry). get_or (here d) j 0) z cut),
       )
 
   pub entry-stop : (t ≡ 0 → ⊥) → t ≤ length (here (drop f l)) → (p : ℕ) → get_or l (f + t) (start 0) ≡ start p → Answer (here (drop f l)) t false 0
@@ -196,7 +196,7 @@ module _ (ws : List ℕ) (b f t n : ℕ) (hb : b < n) (hn : length ws ≡ n) (g 
     in-range : f + t < length (rights ws b)
     in-range = omega (arith, rights-length ws b)
 
-    pay-of : (x p : ℕ) → payloadOf (entry_of x p) ≡ p
+    pay-of : (x p : ℕ) → payload_of (entry_of x p) ≡ p
     pay-of zero p = refl
     pay-of (suc x) p = refl
 
@@ -204,7 +204,7 @@ module _ (ws : List ℕ) (b f t n : ℕ) (hb : b < n) (hn : length ws ≡ n) (g 
     unfolding run_from
     step-first z =
         let a = entry_first (rights ws b) f t in-range z in
-        (a.0, sym (ap payloadOf word ∙ pay-of (get_or ws i 0 / 2 % 2) (get_or ws i 0 / 8)) ∙ a.1)
+        (a.0, sym (ap payload_of word ∙ pay-of (get_or ws i 0 / 2 % 2) (get_or ws i 0 / 8)) ∙ a.1)
 
     pub step-stop : (t ≡ 0 → ⊥) → get_or ws i 0 / 2 % 2 ≡ 0 → Answer (run_from ws b f) t false 0
     unfolding run_from

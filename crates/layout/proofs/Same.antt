@@ -14,9 +14,9 @@ use lib.Seq.{take_at, drop_at, length-take-le, drop-cons, get_or-drop, get_or-ta
 use Rattle.layout.specs.Machine.{Entry, more, code, occupied, mark, emit, rest, scan, left, pend, layout}
 use Rattle.lists.specs.Runs.{total}
 use Rattle.layout.proofs.Laws.{mark-length, rest-length, scan-length, Gap, lap, turn-pend, layout-split, total-append, seam, most, pend-most}
-use Rattle.layout.specs.Decode.{turn, place_of, lastPlace}
+use Rattle.layout.specs.Decode.{turn, place_of, last_place}
 use Rattle.layout.proofs.Round.{last-place, turn-layout}
-use Rattle.layout.specs.Document.{run_of, before, largest, carry, flag, entry_at, word_at, wordsFrom, table}
+use Rattle.layout.specs.Document.{run_of, before, largest, carry, flag, entry_at, word_at, words_from, table}
 
 -- ---- places of a circle that is begun at c
 
@@ -140,19 +140,19 @@ abbrev moved : Entry → ℕ
 moved e = code e + 4
 
 module _ (A : Type 0) (B : Type 0) (f : A → B) where
-  getD-map-left : (a b : List A) (i : ℕ) (z : B) → i < length a → get_or (map f (a ++ b)) i z ≡ get_or (map f a) i z
-  getD-map-left [] b i z h = absurd (omega arith)
-  getD-map-left (x ∷ a) b zero z h = refl
-  getD-map-left (x ∷ a) b (suc i) z h = getD-map-left a b i z (omega arith)
+  get_or-map-left : (a b : List A) (i : ℕ) (z : B) → i < length a → get_or (map f (a ++ b)) i z ≡ get_or (map f a) i z
+  get_or-map-left [] b i z h = absurd (omega arith)
+  get_or-map-left (x ∷ a) b zero z h = refl
+  get_or-map-left (x ∷ a) b (suc i) z h = get_or-map-left a b i z (omega arith)
 
-  getD-map-right : (a b : List A) (i : ℕ) (z : B) → length a ≤ i → get_or (map f (a ++ b)) i z ≡ get_or (map f b) (i - length a) z
-  getD-map-right [] b i z h = ap (λ (k : ℕ). get_or (map f b) k z) (sym (native.Mathlib.Nat.sub-zero i))
-  getD-map-right (x ∷ a) b zero z h = absurd (omega arith)
-  getD-map-right (x ∷ a) b (suc i) z h =
-      getD-map-right a b i z (omega arith) ∙ ap (λ (k : ℕ). get_or (map f b) k z) (sym (native.Mathlib.Nat.suc-sub-suc i (length a)))
+  get_or-map-right : (a b : List A) (i : ℕ) (z : B) → length a ≤ i → get_or (map f (a ++ b)) i z ≡ get_or (map f b) (i - length a) z
+  get_or-map-right [] b i z h = ap (λ (k : ℕ). get_or (map f b) k z) (sym (native.Mathlib.Nat.sub-zero i))
+  get_or-map-right (x ∷ a) b zero z h = absurd (omega arith)
+  get_or-map-right (x ∷ a) b (suc i) z h =
+      get_or-map-right a b i z (omega arith) ∙ ap (λ (k : ℕ). get_or (map f b) k z) (sym (native.Mathlib.Nat.suc-sub-suc i (length a)))
 
-  getD-map-out : (a : List A) (i : ℕ) (z : B) → length a ≤ i → get_or (map f a) i z ≡ z
-  getD-map-out a i z h = lib.ListN.get_or-eq_default (map f a) z {n = i} (omega (arith, length-map a f))
+  get_or-map-out : (a : List A) (i : ℕ) (z : B) → length a ≤ i → get_or (map f a) i z ≡ z
+  get_or-map-out a i z h = lib.ListN.get_or-eq_default (map f a) z {n = i} (omega (arith, length-map a f))
 
 next-at : (q : List Entry) (r : List ℕ) (i : ℕ) → get_or (map moved (q ++ mark r)) (suc i) 0 ≡ get_or (map moved (rest q r)) i 0
 unfolding rest mark
@@ -185,7 +185,7 @@ pick q r k d other ek hd eo = go (dec_lt d k)
     mine = get_or r (d - k) 0 * 8 + flag d * 4 + flag (d - k) * 2
 
     there : length q ≤ d → get_or (map moved (q ++ mark r)) d 0 ≡ get_or (map moved (mark r)) (d - k) 0
-    there h = getD-map-right Entry ℕ moved q (mark r) d 0 h ∙ ap (λ (j : ℕ). get_or (map moved (mark r)) (d - j) 0) (sym ek)
+    there h = get_or-map-right Entry ℕ moved q (mark r) d 0 h ∙ ap (λ (j : ℕ). get_or (map moved (mark r)) (d - j) 0) (sym ek)
 
     inner : k ≤ d → Dec (d - k < length r) → cond (ltb (d - k) (length r)) mine other ≡ get_or (map moved (q ++ mark r)) d 0
     inner h (yes g) =
@@ -196,14 +196,14 @@ pick q r k d other ek hd eo = go (dec_lt d k)
     inner h (no g) =
         ap (λ (b : Bool). cond b mine other) (le-ltb (d - k) (length r) (omega arith))
         ∙ eo
-        ∙ getD-map-out Entry ℕ moved q d 0 (omega arith)
-        ∙ sym (getD-map-out Entry ℕ moved (mark r) (d - k) 0 (omega (arith, mark-length r)))
+        ∙ get_or-map-out Entry ℕ moved q d 0 (omega arith)
+        ∙ sym (get_or-map-out Entry ℕ moved (mark r) (d - k) 0 (omega (arith, mark-length r)))
         ∙ sym (there (omega arith))
 
     go : Dec (d < k) → cond (leb k d) (cond (ltb (d - k) (length r)) mine other) other ≡ get_or (map moved (q ++ mark r)) d 0
     go (yes h) =
         ap (λ (b : Bool). cond b (cond (ltb (d - k) (length r)) mine other) other) (lt-leb k d h)
-        ∙ eo ∙ sym (getD-map-left Entry ℕ moved q (mark r) d 0 (omega arith))
+        ∙ eo ∙ sym (get_or-map-left Entry ℕ moved q (mark r) d 0 (omega arith))
     go (no h) =
         ap (λ (b : Bool). cond b (cond (ltb (d - k) (length r)) mine other) other) (le-leb k d (omega arith))
         ∙ inner (omega arith) (dec_lt (d - k) (length r))
@@ -247,7 +247,7 @@ module _ (runs : List (List ℕ)) (h : total runs < length runs) where
     unfolding entry_at
     entry-at zero d e hd =
         let i = s + length runs - d in
-        sym (getD-map-out Entry ℕ moved (waits runs i ++ mark (run_of runs i)) d 0
+        sym (get_or-map-out Entry ℕ moved (waits runs i ++ mark (run_of runs i)) d 0
         (omega (arith, waits-room i, length-append (waits runs i) (mark (run_of runs i)), mark-length (run_of runs i))))
     entry-at (suc n) d e hd =
         let i = s + length runs - d in
@@ -306,8 +306,8 @@ module _ (runs : List (List ℕ)) (h : total runs < length runs) where
           (other_at runs h s n 0 (omega arith) (entry-at runs h s n 1 (omega arith) (omega arith)))
           ∙ ap₂ (λ (k : ℕ) (x : List ℕ). emit (pend (turn k runs)) x) m r
 
-  words-from : (n s : ℕ) → s + n ≡ length runs → wordsFrom runs s n ≡ drop s (layout runs)
-  unfolding wordsFrom
+  words-from : (n s : ℕ) → s + n ≡ length runs → words_from runs s n ≡ drop s (layout runs)
+  unfolding words_from
   words-from zero s e = sym (lib.ListN.drop_of_length-le (layout runs) {i = s} (unfold layout in omega (arith, scan-length runs (pend runs))))
   words-from (suc n) s e =
       ap₂ (λ (w : ℕ) (l : List ℕ). w ∷ l) (word-at s (omega arith) ∙ sym (layout-at s (omega arith))) (words-from n (suc s) (omega arith))
@@ -333,7 +333,7 @@ place-of runs c hc h =
     omega (arith, total-turn (suc c) runs, turn-length (suc c) runs, ap total e₂, ap length e₂) in
     let small' : total ((r ∷ []) ++ (b ++ a)) < length ((r ∷ []) ++ (b ++ a)) =
     omega (arith, total-turn c runs, turn-length c runs, ap total e₁, ap length e₁) in
-    ap lastPlace (turn-layout (suc c) runs hc h ∙ ap layout e₂)
+    ap last_place (turn-layout (suc c) runs hc h ∙ ap layout e₂)
     ∙ last-place (b ++ a) r small
     ∙ ap length (turn-pend (b ++ a) (r ∷ []) small' ∙ ap pend (sym e₁))
     ∙ sym (carry-pend runs c hc h)

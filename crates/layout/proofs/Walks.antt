@@ -6,7 +6,7 @@ use native.Mathlib.Omega.{arith}
 use lib.ListN.{length, drop, get_or, length-reverse, length-map}
 use lib.Seq.{drop-cons}
 use Rattle.layout.specs.Machine.{Entry, start}
-use Rattle.layout.specs.Decode.{turn, entry, entry_of, stop, steps, firstMark, passed, skip, ahead, lastPlace, place_of}
+use Rattle.layout.specs.Decode.{turn, entry, entry_of, stop, steps, first_mark, passed, skip, ahead, last_place, place_of}
 use Rattle.layout.proofs.Same.{turn-length}
 use Rattle.layout.proofs.Bridge.{get-wrap, get-back, turn-home}
 use Rattle.layout.specs.Moves.{back, lefts, rights, wrap}
@@ -30,13 +30,13 @@ module _ (l : List ℕ) (k m : ℕ) (w : ℕ) (h : k < length l) (e : w ≡ get_
   unfolding steps passed
   left-stop z = (
     p.walk ∙ ap (λ (t : List ℕ). k + steps t) cut ∙ ap (λ (b : ℕ). k + stop b (suc (steps (drop (suc k) l)))) z ∙ (omega arith),
-    p.runs ∙ ap (λ (t : List ℕ). m + passed t) cut ∙ ap (λ (b : ℕ). m + stop b (firstMark (drop (suc k) l) + passed (drop (suc k) l))) z ∙ (omega arith),
+    p.runs ∙ ap (λ (t : List ℕ). m + passed t) cut ∙ ap (λ (b : ℕ). m + stop b (first_mark (drop (suc k) l) + passed (drop (suc k) l))) z ∙ (omega arith),
   )
 
   shifted-is : (b : ℕ) → b < 2 → (b ≡ 0 → ⊥) → b ≡ 1
   shifted-is b x y = omega arith
 
-  pub left-on : (w / 4 % 2 ≡ 0 → ⊥) → (m' : ℕ) → m' ≡ m + firstMark (drop (k + 1) l) → Left l (k + 1) m'
+  pub left-on : (w / 4 % 2 ≡ 0 → ⊥) → (m' : ℕ) → m' ≡ m + first_mark (drop (k + 1) l) → Left l (k + 1) m'
   unfolding steps passed
   left-on nz m' em =
       let o : w / 4 % 2 ≡ 1 = shifted-is (w / 4 % 2) (omega arith) nz in
@@ -46,8 +46,8 @@ module _ (l : List ℕ) (k m : ℕ) (w : ℕ) (h : k < length l) (e : w ≡ get_
             p.walk ∙ ap (λ (t : List ℕ). k + steps t) cut ∙ ap (λ (b : ℕ). k + stop b (suc (steps (drop (suc k) l)))) o
             ∙ ap (λ (j : ℕ). k + suc (steps (drop j l))) s ∙ (omega arith);
         runs =
-            p.runs ∙ ap (λ (t : List ℕ). m + passed t) cut ∙ ap (λ (b : ℕ). m + stop b (firstMark (drop (suc k) l) + passed (drop (suc k) l))) o
-            ∙ ap (λ (j : ℕ). m + (firstMark (drop j l) + passed (drop j l))) s ∙ (omega arith);
+            p.runs ∙ ap (λ (t : List ℕ). m + passed t) cut ∙ ap (λ (b : ℕ). m + stop b (first_mark (drop (suc k) l) + passed (drop (suc k) l))) o
+            ∙ ap (λ (j : ℕ). m + (first_mark (drop j l) + passed (drop j l))) s ∙ (omega arith);
       }
 
 pub left_end : (l : List ℕ) (k m : ℕ) → length l ≤ k → Left l k m → (steps l ≡ k) × (passed l ≡ m)
@@ -56,11 +56,11 @@ left_end l k m h p =
     let z : drop k l ≡ [] = lib.ListN.drop_of_length-le l {i = k} h in
     (p.walk ∙ ap (λ (t : List ℕ). k + steps t) z ∙ (omega arith), p.runs ∙ ap (λ (t : List ℕ). m + passed t) z ∙ (omega arith))
 
-pub firstMark-in : (l : List ℕ) (k : ℕ) → k < length l → firstMark (drop k l) ≡ get_or l k 0 % 2
-firstMark-in l k h = ap firstMark (drop-cons l k 0 h)
+pub first_mark-in : (l : List ℕ) (k : ℕ) → k < length l → first_mark (drop k l) ≡ get_or l k 0 % 2
+first_mark-in l k h = ap first_mark (drop-cons l k 0 h)
 
-pub firstMark-out : (l : List ℕ) (k : ℕ) → length l ≤ k → firstMark (drop k l) ≡ 0
-firstMark-out l k h = ap firstMark (lib.ListN.drop_of_length-le l {i = k} h)
+pub first_mark-out : (l : List ℕ) (k : ℕ) → length l ≤ k → first_mark (drop k l) ≡ 0
+first_mark-out l k h = ap first_mark (lib.ListN.drop_of_length-le l {i = k} h)
 
 -- the word that the code reads
 pub seen : (ws : List ℕ) (c k n i : ℕ) → c < n → k < n → length ws ≡ n → i ≡ back n c k → get_or ws i 0 ≡ get_or (lefts ws c) k 0
@@ -119,7 +119,7 @@ read ws b k n i hb hk hn e =
 -- from the walks to the place
 pub placed : (ws : List ℕ) (c k m b s : ℕ) → c < length ws → k < length ws → steps (lefts ws c) ≡ k → passed (lefts ws c) ≡ m → b ≡ back (length ws) c k → skip m (rights ws b) ≡ s
     → place_of ws c ≡ s - k
-unfolding place_of lastPlace
+unfolding place_of last_place
 placed ws c k m b s hc hk ek em eb es =
     let t = turn (suc c) ws in
     let i : length t - suc (steps (reverse t)) ≡ length ws - suc k = ap₂ (λ (x y : ℕ). x - suc y) (turn-length (suc c) ws) ek in

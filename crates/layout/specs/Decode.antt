@@ -28,13 +28,13 @@ steps [] = 0
 steps (w ∷ ws) = stop (w / 4 % 2) (suc (steps ws))
 
 -- the occupied bit of the slot next to the left
-abbrev pub firstMark : List ℕ → ℕ
-firstMark [] = 0
-firstMark (w ∷ ws) = w % 2
+abbrev pub first_mark : List ℕ → ℕ
+first_mark [] = 0
+first_mark (w ∷ ws) = w % 2
 
 unfoldable pub passed : List ℕ → ℕ
 passed [] = 0
-passed (w ∷ ws) = stop (w / 4 % 2) (firstMark ws + passed ws)
+passed (w ∷ ws) = stop (w / 4 % 2) (first_mark ws + passed ws)
 
 -- going right: the later entries of a run, and run m of those that begin here
 unfoldable pub mores : List Entry → List ℕ
@@ -63,22 +63,22 @@ ahead ws = map entry (turn (length ws - suc (steps (reverse ws))) ws)
 abbrev pub reading : List ℕ → List ℕ
 reading ws = nth (passed (reverse ws)) (ahead ws)
 
-unfoldable pub lastRun : List ℕ → List ℕ
-lastRun ws = stop' (get_or (reverse ws) 0 0 % 2) (reading ws)
+unfoldable pub last_run : List ℕ → List ℕ
+last_run ws = stop' (get_or (reverse ws) 0 0 % 2) (reading ws)
 
 -- how far behind the circle's last address its run begins, or would begin
-unfoldable pub lastPlace : List ℕ → ℕ
-lastPlace ws = skip (passed (reverse ws)) (ahead ws) - steps (reverse ws)
+unfoldable pub last_place : List ℕ → ℕ
+last_place ws = skip (passed (reverse ws)) (ahead ws) - steps (reverse ws)
 
 unfoldable pub place_of : List ℕ → ℕ → ℕ
-place_of words c = lastPlace (turn (suc c) words)
+place_of words c = last_place (turn (suc c) words)
 
 unfoldable pub run_at : List ℕ → ℕ → List ℕ
-run_at words c = lastRun (turn (suc c) words)
+run_at words c = last_run (turn (suc c) words)
 
-unfoldable pub runsFrom : List ℕ → ℕ → ℕ → List (List ℕ)
-runsFrom words c zero = []
-runsFrom words c (suc n) = run_at words c ∷ runsFrom words (suc c) n
+unfoldable pub runs_from : List ℕ → ℕ → ℕ → List (List ℕ)
+runs_from words c zero = []
+runs_from words c (suc n) = run_at words c ∷ runs_from words (suc c) n
 
 unfoldable pub decode : List ℕ → List (List ℕ)
-decode words = runsFrom words 0 (length words)
+decode words = runs_from words 0 (length words)

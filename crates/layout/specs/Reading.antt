@@ -4,14 +4,14 @@ use Rattle.layout.specs.Machine.{Entry, start, more}
 use Rattle.layout.specs.Decode.{mores}
 use Rattle.layout.specs.Moves.{wrap, back, rights}
 
-abbrev pub payloadOf : Entry → ℕ
-payloadOf (start p) = p
-payloadOf (more p) = p
+abbrev pub payload_of : Entry → ℕ
+payload_of (start p) = p
+payload_of (more p) = p
 
 -- the run that the first of these entries begins
 unfoldable pub here : List Entry → List ℕ
 here [] = []
-here (e ∷ es) = payloadOf e ∷ mores es
+here (e ∷ es) = payload_of e ∷ mores es
 
 -- the run that begins f slots on from b
 unfoldable pub run_from : List ℕ → ℕ → ℕ → List ℕ

@@ -7,7 +7,7 @@ use native.Mathlib.Omega.{arith}
 use native.Mathlib.Nat.{zero-add}
 use lib.Dec.{T}
 use lib.ListN.{length, get_or, set, replicate}
-use Rattle.lists.specs.Lists.{every, mapAt}
+use Rattle.lists.specs.Lists.{every, map_at}
 use Rattle.lists.specs.Runs.{Runs}
 use Rattle.lists.proofs.Tests.{and_left, and_right, and_both}
 
@@ -16,18 +16,18 @@ abbrev pub All : {A : Type 0} → (A → Type 0) → List A → Type 0
 All P [] = Unit {0}
 All P (x ∷ xs) = P x × All P xs
 
-pub length-mapAt : {A B : Type 0} (f : ℕ → A → B) (i : ℕ) (xs : List A) → length (mapAt f i xs) ≡ length xs
-unfolding mapAt
-length-mapAt f i [] = refl
-length-mapAt f i (x ∷ xs) = ap suc (length-mapAt f (suc i) xs)
+pub length-map_at : {A B : Type 0} (f : ℕ → A → B) (i : ℕ) (xs : List A) → length (map_at f i xs) ≡ length xs
+unfolding map_at
+length-map_at f i [] = refl
+length-map_at f i (x ∷ xs) = ap suc (length-map_at f (suc i) xs)
 
-pub getD-mapAt : {A B : Type 0} (f : ℕ → A → B) (i : ℕ) (xs : List A) (c : ℕ) (a : A) (b : B) → c < length xs → get_or (mapAt f i xs) c b ≡ f (i + c) (get_or xs c a)
-unfolding mapAt
-getD-mapAt f i [] c a b h = absurd (omega arith)
-getD-mapAt f i (x ∷ xs) zero a b h = let e : i ≡ i + 0 = omega arith in ap (λ (m : ℕ). f m x) e
-getD-mapAt f i (x ∷ xs) (suc c) a b h =
+pub get_or-map_at : {A B : Type 0} (f : ℕ → A → B) (i : ℕ) (xs : List A) (c : ℕ) (a : A) (b : B) → c < length xs → get_or (map_at f i xs) c b ≡ f (i + c) (get_or xs c a)
+unfolding map_at
+get_or-map_at f i [] c a b h = absurd (omega arith)
+get_or-map_at f i (x ∷ xs) zero a b h = let e : i ≡ i + 0 = omega arith in ap (λ (m : ℕ). f m x) e
+get_or-map_at f i (x ∷ xs) (suc c) a b h =
     let e : suc i + c ≡ i + suc c = omega arith in
-    getD-mapAt f (suc i) xs c a b (omega arith) ∙ ap (λ (m : ℕ). f m (get_or xs c a)) e
+    get_or-map_at f (suc i) xs c a b (omega arith) ∙ ap (λ (m : ℕ). f m (get_or xs c a)) e
 
 pub every_get : {A : Type 0} (f : A → Bool) (xs : List A) (d : A) → T (every f xs) → (c : ℕ) → c < length xs → T (f (get_or xs c d))
 unfolding every
@@ -41,15 +41,15 @@ get-every f [] d h = tt
 get-every f (x ∷ xs) d h = and_both (f x) (every f xs) (h 0 (omega arith)) (get-every f xs d (λ c l. h (suc c) (omega arith)))
 
 -- a test of each place and its element
-pub places-get : {A : Type 0} (f : ℕ → A → Bool) (xs : List A) (d : A) → T (every (λ (b : Bool). b) (mapAt f 0 xs)) → (c : ℕ) → c < length xs → T (f c (get_or xs c d))
+pub places-get : {A : Type 0} (f : ℕ → A → Bool) (xs : List A) (d : A) → T (every (λ (b : Bool). b) (map_at f 0 xs)) → (c : ℕ) → c < length xs → T (f c (get_or xs c d))
 places-get f xs d t c h =
-    subst T (getD-mapAt f 0 xs c d true h ∙ ap (λ m. f m (get_or xs c d)) (zero-add c))
-    (every_get (λ (b : Bool). b) (mapAt f 0 xs) true t c (rw length-mapAt h))
+    subst T (get_or-map_at f 0 xs c d true h ∙ ap (λ m. f m (get_or xs c d)) (zero-add c))
+    (every_get (λ (b : Bool). b) (map_at f 0 xs) true t c (rw length-map_at h))
 
-pub get-places : {A : Type 0} (f : ℕ → A → Bool) (xs : List A) (d : A) → ((c : ℕ) → c < length xs → T (f c (get_or xs c d))) → T (every (λ (b : Bool). b) (mapAt f 0 xs))
+pub get-places : {A : Type 0} (f : ℕ → A → Bool) (xs : List A) (d : A) → ((c : ℕ) → c < length xs → T (f c (get_or xs c d))) → T (every (λ (b : Bool). b) (map_at f 0 xs))
 get-places f xs d t =
-    get-every (λ (b : Bool). b) (mapAt f 0 xs) true
-    (λ c h. let l : c < length xs = rw length-mapAt at h in subst T (sym (getD-mapAt f 0 xs c d true l ∙ ap (λ m. f m (get_or xs c d)) (zero-add c))) (t c l))
+    get-every (λ (b : Bool). b) (map_at f 0 xs) true
+    (λ c h. let l : c < length xs = rw length-map_at at h in subst T (sym (get_or-map_at f 0 xs c d true l ∙ ap (λ m. f m (get_or xs c d)) (zero-add c))) (t c l))
 
 pub every-all : {A : Type 0} (f : A → Bool) (xs : List A) → T (every f xs) → All (λ x. T (f x)) xs
 unfolding every

@@ -9,7 +9,7 @@ use lib.Dec.{leb, eqb, T, leb→le, le→leb}
 use lib.ListN.{length, get_or, set, replicate}
 use borrow.Author.Tests.{eq-eqb, ne_eqb, le-leb, lt-leb}
 use Rattle.lists.specs.Lists.{bit, sum}
-use Rattle.lists.specs.Runs.{Runs, rising, risesFrom, add, erase, has, count, total}
+use Rattle.lists.specs.Runs.{Runs, rising, rises_from, add, erase, has, count, total}
 use Rattle.lists.proofs.Tests.{and_left, and_right, and_both, no_true, leb-cases, eqb-cases, is, is-yes, is-no}
 use Rattle.lists.proofs.Alls.{All, all_map}
 use Rattle.lists.proofs.Sums.{Same, sum-append}
@@ -21,12 +21,12 @@ unfoldable pub Rises : List ℕ → Type 0
 Rises [] = Unit {0}
 Rises (x ∷ xs) = All (λ y. x ≤ y) xs × Rises xs
 
-from-test : (x : ℕ) (xs : List ℕ) → T (risesFrom x xs) → All (λ y. x ≤ y) xs × Rises xs
-unfolding risesFrom Rises
+from-test : (x : ℕ) (xs : List ℕ) → T (rises_from x xs) → All (λ y. x ≤ y) xs × Rises xs
+unfolding rises_from Rises
 from-test x [] t = (tt, tt)
 from-test x (y ∷ ys) t =
-    let l : x ≤ y = leb→le x y (and_left (leb x y) (risesFrom y ys) t) in
-    let r : All (λ z. y ≤ z) ys × Rises ys = from-test y ys (and_right (leb x y) (risesFrom y ys) t) in
+    let l : x ≤ y = leb→le x y (and_left (leb x y) (rises_from y ys) t) in
+    let r : All (λ z. y ≤ z) ys × Rises ys = from-test y ys (and_right (leb x y) (rises_from y ys) t) in
     ((l, all_map (λ z. y ≤ z) (λ z. x ≤ z) (λ z h. omega arith) ys r.0), r)
 
 pub rising-rises : (xs : List ℕ) → T (rising xs) → Rises xs
@@ -34,10 +34,10 @@ unfolding rising Rises
 rising-rises [] t = tt
 rising-rises (x ∷ xs) t = from-test x xs t
 
-to-test : (x : ℕ) (xs : List ℕ) → All (λ y. x ≤ y) xs → Rises xs → T (risesFrom x xs)
-unfolding risesFrom Rises
+to-test : (x : ℕ) (xs : List ℕ) → All (λ y. x ≤ y) xs → Rises xs → T (rises_from x xs)
+unfolding rises_from Rises
 to-test x [] a r = tt
-to-test x (y ∷ ys) a r = and_both (leb x y) (risesFrom y ys) (le→leb x y a.0) (to-test y ys r.0 r.1)
+to-test x (y ∷ ys) a r = and_both (leb x y) (rises_from y ys) (le→leb x y a.0) (to-test y ys r.0 r.1)
 
 pub rises-rising : (xs : List ℕ) → Rises xs → T (rising xs)
 unfolding rising Rises

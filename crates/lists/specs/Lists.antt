@@ -43,6 +43,6 @@ module _ {A : Type 0} where
 
 module _ {A B : Type 0} where
   -- f of each place and its element, places counted from i
-  unfoldable pub mapAt : (ℕ → A → B) → ℕ → List A → List B
-  mapAt f i [] = []
-  mapAt f i (x ∷ xs) = f i x ∷ mapAt f (suc i) xs
+  unfoldable pub map_at : (ℕ → A → B) → ℕ → List A → List B
+  map_at f i [] = []
+  map_at f i (x ∷ xs) = f i x ∷ map_at f (suc i) xs

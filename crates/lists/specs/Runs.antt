@@ -7,13 +7,13 @@ abbrev pub Runs : Type 0
 Runs = List (List ℕ)
 
 -- rising, repeats allowed
-unfoldable pub risesFrom : ℕ → List ℕ → Bool
-risesFrom x [] = true
-risesFrom x (y ∷ ys) = leb x y && risesFrom y ys
+unfoldable pub rises_from : ℕ → List ℕ → Bool
+rises_from x [] = true
+rises_from x (y ∷ ys) = leb x y && rises_from y ys
 
 unfoldable pub rising : List ℕ → Bool
 rising [] = true
-rising (x ∷ xs) = risesFrom x xs
+rising (x ∷ xs) = rises_from x xs
 
 -- x put in its place
 unfoldable pub add : ℕ → List ℕ → List ℕ
@@ -26,9 +26,9 @@ erase x [] = []
 erase x (y ∷ ys) = cond (eqb x y) ys (y ∷ erase x ys)
 
 -- without any x
-unfoldable pub eraseAll : ℕ → List ℕ → List ℕ
-eraseAll x [] = []
-eraseAll x (y ∷ ys) = cond (eqb x y) (eraseAll x ys) (y ∷ eraseAll x ys)
+unfoldable pub erase_all : ℕ → List ℕ → List ℕ
+erase_all x [] = []
+erase_all x (y ∷ ys) = cond (eqb x y) (erase_all x ys) (y ∷ erase_all x ys)
 
 -- whether x is there, and how often
 unfoldable pub has : ℕ → List ℕ → Bool

@@ -2,8 +2,8 @@
 ghost use Rattle.std.specs.Prelude.{◌≡◌, map, reverse, suc, ◌+◌, ◌*◌, ◌-◌, ◌≤◌, ◌<◌, length, get_or};
 ghost use Rattle.lists.specs.Lists.{sum};
 ghost use Rattle.slots.specs.Payload.{matches};
-ghost use Rattle.layout.specs.Decode.{turn, entry, steps, passed, firstMark, skip, run_at, reading};
-ghost use Rattle.layout.specs.Moves.{lefts, rights, isStart};
+ghost use Rattle.layout.specs.Decode.{turn, entry, steps, passed, first_mark, skip, run_at, reading};
+ghost use Rattle.layout.specs.Moves.{lefts, rights, is_start};
 ghost use Rattle.layout.specs.Reading.{run_from};
 ghost use Rattle.lookup.specs.Spots.{First};
 ghost use Rattle.layout.specs.Bytes.{words_of};
@@ -35,7 +35,7 @@ pub fn word(bytes: &[u8], i: usize) -> u32
 // From the right end of a part to the left, to a slot that is not shifted: the slots passed, and the occupied bits of all that were come to.
 fn walk_left(part: &[u8]) -> Home
     ensures { (steps (reverse (words_of part.now)) ≡ result.steps)
-        × (firstMark (reverse (words_of part.now)) + passed (reverse (words_of part.now)) ≡ result.runs)
+        × (first_mark (reverse (words_of part.now)) + passed (reverse (words_of part.now)) ≡ result.runs)
         × (result.steps ≤ length part.now) × (result.runs ≤ length part.now) }
 {
     let n = part.len() / 4;
@@ -79,7 +79,7 @@ fn walk_home(bytes: &[u8], c: usize) -> Home
 
 // From the left end of a part to the right, to the start of run m of those that begin there: the slots passed, and the runs that are still to be skipped.
 fn skip_runs(part: &[u8], m: usize) -> Skipped
-    ensures { (skip m (map entry (words_of part.now)) ≡ result.steps) × (result.togo ≡ m - sum isStart (map entry (words_of part.now)))
+    ensures { (skip m (map entry (words_of part.now)) ≡ result.steps) × (result.togo ≡ m - sum is_start (map entry (words_of part.now)))
         × (result.steps ≤ length (words_of part.now)) }
 {
     let n = part.len() / 4;

@@ -1,14 +1,14 @@
 // Single places of the annex directory: the place of a length and its part of the annex, one table more, empty tables dropped, a count replaced.
 ghost use Rattle.std.specs.Prelude.{◌≡◌, ◌∷◌, [], ◌++◌, ℕ, ◌+◌, ◌*◌, ◌≤◌, ◌<◌, T, length, get_or, set};
 ghost use Rattle.lists.specs.Lists.{every};
-ghost use Rattle.directory.specs.Places.{noPlace, placesInUse, placesNotInUse, zeroPlace, wordsTaken, partIn, offsetIn, trim, fifteen};
+ghost use Rattle.directory.specs.Places.{no_place, places_in_use, places_not_in_use, zero_place, words_taken, part_in, offset_in, trim, fifteen};
 ghost use Rattle.places.specs.Lookup.{PlaceOf};
 
 use directory::Place;
 
 // The place of the table of length b, or 15 if there is none.
 pub fn place_of(places: [Place; 15], b: u32) -> usize
-    ensures { PlaceOf b (placesInUse places) result }
+    ensures { PlaceOf b (places_in_use places) result }
 {
     let n = directory::places_in_use(places);
     let mut i: usize = 0;
@@ -24,10 +24,10 @@ pub fn place_of(places: [Place; 15], b: u32) -> usize
 
 // The words of the table of length b, a part of the annex itself; an empty part if there is no such table. An offset counts bytes, four to a word.
 pub fn part<'a>(annex: &'a [u32], places: [Place; 15], b: u32) -> &'a [u32]
-    requires { (wordsTaken (placesInUse places) ≤ length annex.now) × ((j : ℕ) → (get_or places j noPlace).s ≤ 20) }
-    ensures words { result.now ≡ partIn b (placesInUse places) annex.now }
+    requires { (words_taken (places_in_use places) ≤ length annex.now) × ((j : ℕ) → (get_or places j no_place).s ≤ 20) }
+    ensures words { result.now ≡ part_in b (places_in_use places) annex.now }
     ensures itself { result.ref_ptr.0 ≡ annex.entry.ref_ptr.0 }
-    ensures there { 0 < length result.now → result.ref_ptr.1 ≡ annex.entry.ref_ptr.1 + 4 * offsetIn b (placesInUse places) }
+    ensures there { 0 < length result.now → result.ref_ptr.1 ≡ annex.entry.ref_ptr.1 + 4 * offset_in b (places_in_use places) }
 {
     let i = place_of(places, b);
     if 15 <= i {
@@ -41,8 +41,8 @@ pub fn part<'a>(annex: &'a [u32], places: [Place; 15], b: u32) -> &'a [u32]
 
 // One more table. There must be room for it.
 pub fn with_place(mut places: [Place; 15], q: Place) -> [Place; 15]
-    requires { (length (placesInUse places) < 15) × T (every zeroPlace (placesNotInUse places)) }
-    ensures { result ≡ fifteen (placesInUse places ++ (q ∷ [])) }
+    requires { (length (places_in_use places) < 15) × T (every zero_place (places_not_in_use places)) }
+    ensures { result ≡ fifteen (places_in_use places ++ (q ∷ [])) }
 {
     let n = directory::places_in_use(places);
     places[n] = q;
@@ -51,8 +51,8 @@ pub fn with_place(mut places: [Place; 15], q: Place) -> [Place; 15]
 
 // Without the empty tables at the end.
 pub fn trimmed(mut places: [Place; 15]) -> [Place; 15]
-    requires { T (every zeroPlace (placesNotInUse places)) }
-    ensures { result ≡ fifteen (trim (placesInUse places)) }
+    requires { T (every zero_place (places_not_in_use places)) }
+    ensures { result ≡ fifteen (trim (places_in_use places)) }
 {
     let mut i = directory::places_in_use(places);
     while 0 < i {
@@ -73,7 +73,7 @@ pub fn trimmed(mut places: [Place; 15]) -> [Place; 15]
 // Place i's count replaced.
 pub fn with_count(mut places: [Place; 15], i: usize, count: u32) -> [Place; 15]
     requires { i < 15 }
-    ensures { result ≡ set places i (record { b = (get_or places i noPlace).b; s = (get_or places i noPlace).s; count = count }) }
+    ensures { result ≡ set places i (record { b = (get_or places i no_place).b; s = (get_or places i no_place).s; count = count }) }
 {
     let p = places[i];
     places[i] = Place {

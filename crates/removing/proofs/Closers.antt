@@ -5,7 +5,7 @@ use native.Mathlib.Omega.{arith}
 use native.Mathlib.Decide.{ℕ_discrete}
 use Rattle.layout.specs.Machine.{Entry}
 use Rattle.layout.specs.Decode.{entry}
-use Rattle.layout.specs.Moves.{closer, isStart}
+use Rattle.layout.specs.Moves.{closer, is_start}
 use Rattle.layout.proofs.Draws.{entry-start, entry_more, closer-start}
 
 pub closer-home : (v m w : ℕ) → v / 2 % 2 + m ≡ 0 → v / 8 * 8 + 1 ≡ closer (entry v) m w
@@ -24,9 +24,9 @@ closer-away v m w n = go (ℕ_discrete (v / 2 % 2) 0)
         let e : v / 8 * 8 + v / 2 % 2 * 2 + 4 + w % 2 ≡ v / 8 * 8 + 2 + 4 + w % 2 = omega arith in
         e ∙ sym (ap (λ (a : Entry). closer a m w) (entry_more v z))
 
-pub start-bit : (v : ℕ) → isStart (entry v) ≡ 1 - v / 2 % 2
+pub start-bit : (v : ℕ) → is_start (entry v) ≡ 1 - v / 2 % 2
 start-bit v = go (ℕ_discrete (v / 2 % 2) 0)
   where
-    go : Dec (v / 2 % 2 ≡ 0) → isStart (entry v) ≡ 1 - v / 2 % 2
-    go (yes z) = omega (arith, ap isStart (entry-start v z))
-    go (no z) = omega (arith, ap isStart (entry_more v z))
+    go : Dec (v / 2 % 2 ≡ 0) → is_start (entry v) ≡ 1 - v / 2 % 2
+    go (yes z) = omega (arith, ap is_start (entry-start v z))
+    go (no z) = omega (arith, ap is_start (entry_more v z))

@@ -1,7 +1,7 @@
 // An entry goes from a table of words, and each behind it that is not at home moves one slot to the left. On any words the loops go over the circle at most once.
 ghost use Rattle.std.specs.Prelude.{◌≡◌, ◌+◌, ◌-◌, ◌*◌, ◌/◌, ◌%◌, ◌≤◌, ◌<◌, length, take, drop};
 ghost use Rattle.layout.specs.Decode.{turn, entry};
-ghost use Rattle.layout.specs.Moves.{drawing, closer, isStart, removeAt, occs};
+ghost use Rattle.layout.specs.Moves.{drawing, closer, is_start, remove_at, occs};
 
 // The word of v's entry where it moves one slot to the left, to the slot of word w, where m runs wait on arrival. One test, which is seldom true.
 fn closer_word(v: u32, m: usize, w: u32) -> u32
@@ -18,7 +18,7 @@ fn closer_word(v: u32, m: usize, w: u32) -> u32
 // How many runs wait on arrival at the next slot.
 fn still_waiting(m: usize, w: u32, v: u32) -> usize
     requires { m ≤ 4194304 }
-    ensures { (result ≡ m + w % 2 - isStart (entry v)) × (result ≤ m + 1) }
+    ensures { (result ≡ m + w % 2 - is_start (entry v)) × (result ≤ m + 1) }
 {
     let b = w % 2;
     let t = m + b as usize;
@@ -103,7 +103,7 @@ fn unmarked(w: u32) -> u32
 // The entry k slots on from c goes: u of its run come before it, and v is 0 where none comes behind it.
 pub fn pluck(ws: &mut [u32], c: usize, k: usize, u: usize, v: usize)
     requires { (c < length ws.old) × (length ws.old ≤ 1048576) × (k + 1 < length ws.old) }
-    ensures { turn c ws.new ≡ removeAt u v k (turn c ws.old) }
+    ensures { turn c ws.new ≡ remove_at u v k (turn c ws.old) }
 {
     let n = ws.len();
     if k == 0 {

@@ -2,10 +2,10 @@
 use Rattle.std.specs.Prelude.{ℕ, zero, suc, ◌+◌, ◌*◌, Bool, true, ◌&&◌, List, [], ◌∷◌, ◌++◌, length, take, get_or, replicate, eqb}
 use Rattle.lists.specs.Lists.{every, same}
 use Rattle.directory.specs.declared.Place.{Place}
-use Rattle.rules.specs.Record.{Filter, annexUsed}
+use Rattle.rules.specs.Record.{Filter, annex_used}
 use Rattle.rules.specs.Calls.{Outcome, start}
 use Rattle.rules.specs.Quick.{query, insert, delete, rejuvenate}
-use Rattle.rules.specs.Slow.{audit, settle, double, secondMain}
+use Rattle.rules.specs.Slow.{audit, settle, double, second_main}
 
 -- ---- how a case is written
 
@@ -23,7 +23,7 @@ pub data Step : Type 0 where
   size : ℕ → Step
   slot asked : ℕ → ℕ → Step
   queue annex : List ℕ → Step
-  allZero : Step
+  all_zero : Step
 
 -- a case goes on where the case numbered `after` ended, 0 being a fresh filter of the table
 pub record Case : Type 0 where
@@ -43,16 +43,16 @@ called x Double =
     let second : List ℕ = replicate (length x.main * 2) 1 in
     let y = double x.rec x.main x.queue x.annex (length second) in
     elim y.number [
-      | zero ↦ record { number = 0; rec = y.rec; main = secondMain x.rec x.main x.queue x.annex second; queue = y.queue; annex = y.annex }
+      | zero ↦ record { number = 0; rec = y.rec; main = second_main x.rec x.main x.queue x.annex second; queue = y.queue; annex = y.annex }
       | suc n ↦ y
     ]
 
-unfoldable pub placeNumbers : List Place → List ℕ
-placeNumbers [] = []
-placeNumbers (p ∷ ps) = p.b ∷ p.s ∷ p.count ∷ placeNumbers ps
+unfoldable pub place_numbers : List Place → List ℕ
+place_numbers [] = []
+place_numbers (p ∷ ps) = p.b ∷ p.s ∷ p.count ∷ place_numbers ps
 
 unfoldable pub numbers : Filter → List ℕ
-numbers r = r.k ∷ r.start ∷ r.f ∷ r.regime ∷ r.used ∷ r.queued ∷ placeNumbers r.dir
+numbers r = r.k ∷ r.start ∷ r.f ∷ r.regime ∷ r.used ∷ r.queued ∷ place_numbers r.dir
 
 unfoldable pub unchanged : Outcome → Outcome → Bool
 unchanged x y = same (numbers x.rec) (numbers y.rec) && (same x.main y.main && (same x.queue y.queue && same x.annex y.annex))
@@ -67,9 +67,9 @@ seen x (size n) = eqb (length x.main) n
 seen x (slot i w) = eqb (get_or x.main i 1) w
 seen x (asked h a) = eqb (query x.rec x.main x.queue x.annex h) a
 seen x (queue ws) = same (take x.rec.queued x.queue) ws
-seen x (annex ws) = same (take (annexUsed x.rec) x.annex) ws
-seen x allZero =
-    every (eqb 0) x.main && (every (eqb 0) (take 8 x.annex) && eqb (x.rec.used + x.rec.queued + annexUsed x.rec) 0)
+seen x (annex ws) = same (take (annex_used x.rec) x.annex) ws
+seen x all_zero =
+    every (eqb 0) x.main && (every (eqb 0) (take 8 x.annex) && eqb (x.rec.used + x.rec.queued + annex_used x.rec) 0)
 
 unfoldable pub next : Outcome → Step → Outcome
 next x (ok c) = called x c
@@ -82,7 +82,7 @@ next x (slot i w) = x
 next x (asked h a) = x
 next x (queue ws) = x
 next x (annex ws) = x
-next x allZero = x
+next x all_zero = x
 
 -- all is seen as it should be; and the end
 pub record Played : Type 0 where
@@ -94,11 +94,11 @@ play b x [] = record { right = b; end = x }
 play b x (t ∷ ts) = play (b && seen x t) (next x t) ts
 
 -- the cases in their order; `ends` are the ends of those before, first the fresh filter
-unfoldable pub allRight : Outcome → List Outcome → List Case → Bool
-allRight fresh ends [] = true
-allRight fresh ends (c ∷ cs) =
+unfoldable pub all_right : Outcome → List Outcome → List Case → Bool
+all_right fresh ends [] = true
+all_right fresh ends (c ∷ cs) =
     let p = play true (get_or ends c.after fresh) c.steps in
-    p.right && allRight fresh (ends ++ p.end ∷ []) cs
+    p.right && all_right fresh (ends ++ p.end ∷ []) cs
 
 -- ---- the tables
 
@@ -127,12 +127,12 @@ twelve =
     -- 9
     ∷ record {
       after = 8;
-      steps = ok (Delete 20) ∷ slot 20 121 ∷ queue (40 ∷ []) ∷ asked 20 0 ∷ asked 84 1 ∷ ok Settle ∷ allZero ∷ [];
+      steps = ok (Delete 20) ∷ slot 20 121 ∷ queue (40 ∷ []) ∷ asked 20 0 ∷ asked 84 1 ∷ ok Settle ∷ all_zero ∷ [];
     }
     -- 10
     ∷ record { after = 8; steps = ok (Rejuvenate 84) ∷ slot 84 1 ∷ queue (169 ∷ []) ∷ ok Settle ∷ slot 20 0 ∷ [] }
     -- 11
-    ∷ record { after = 8; steps = ok (Delete 20) ∷ ok (Delete 84) ∷ ok Settle ∷ allZero ∷ [] }
+    ∷ record { after = 8; steps = ok (Delete 20) ∷ ok (Delete 84) ∷ ok Settle ∷ all_zero ∷ [] }
     -- 12
     ∷ record {
       after = 0;
@@ -142,26 +142,26 @@ twelve =
     ∷ []
 
 -- memory handed in otherwise
-abbrev pub withUsed : ℕ → Outcome → Outcome
-withUsed n x =
+abbrev pub with_used : ℕ → Outcome → Outcome
+with_used n x =
     let r = x.rec in
     let s : Filter = record { k = r.k; start = r.start; f = r.f; regime = r.regime; used = n; queued = r.queued; dir = r.dir } in
     record { number = 0; rec = s; main = x.main; queue = x.queue; annex = x.annex }
 
-abbrev pub withK : ℕ → Outcome → Outcome
-withK k x =
+abbrev pub with_k : ℕ → Outcome → Outcome
+with_k k x =
     let r = x.rec in
     let s : Filter = record { k = k; start = r.start; f = r.f; regime = r.regime; used = r.used; queued = r.queued; dir = r.dir } in
     record { number = 0; rec = s; main = x.main; queue = x.queue; annex = x.annex }
 
-abbrev pub withMain : List ℕ → Outcome → Outcome
-withMain ws x = record { number = 0; rec = x.rec; main = ws; queue = x.queue; annex = x.annex }
+abbrev pub with_main : List ℕ → Outcome → Outcome
+with_main ws x = record { number = 0; rec = x.rec; main = ws; queue = x.queue; annex = x.annex }
 
-abbrev pub withQueue : List ℕ → Outcome → Outcome
-withQueue ws x = record { number = 0; rec = x.rec; main = x.main; queue = ws; annex = x.annex }
+abbrev pub with_queue : List ℕ → Outcome → Outcome
+with_queue ws x = record { number = 0; rec = x.rec; main = x.main; queue = ws; annex = x.annex }
 
-abbrev pub withAnnex : List ℕ → Outcome → Outcome
-withAnnex ws x = record { number = 0; rec = x.rec; main = x.main; queue = x.queue; annex = ws }
+abbrev pub with_annex : List ℕ → Outcome → Outcome
+with_annex ws x = record { number = 0; rec = x.rec; main = x.main; queue = x.queue; annex = ws }
 
 -- Cases of ours, on the same fresh filter
 unfoldable pub further : List Case
@@ -187,22 +187,22 @@ further =
     -- 4: two queue words, of which the second one matters: 20, 84, 61 and 125 are void; the mother hashes of 20 and of 61 go
     ∷ record {
       after = 3;
-      steps = ok (Delete 20) ∷ ok (Delete 61) ∷ queue (40 ∷ 122 ∷ []) ∷ asked 84 1 ∷ asked 125 1 ∷ ok Settle ∷ asked 84 0 ∷ asked 125 0 ∷ allZero ∷ [];
+      steps = ok (Delete 20) ∷ ok (Delete 61) ∷ queue (40 ∷ 122 ∷ []) ∷ asked 84 1 ∷ asked 125 1 ∷ ok Settle ∷ asked 84 0 ∷ asked 125 0 ∷ all_zero ∷ [];
     }
     -- 5: the refusals of a record, of lengths and of words
     ∷ record {
       after = 0;
-      steps = ok (Insert 20) ∷ handed (withUsed 8) ∷ no 2 Audit ∷ no 2 (Insert 1) ∷ no 2 Double ∷ asked 20 2 ∷ handed (withUsed 0) ∷ no 4 Audit ∷ no 4 Settle ∷ no 4 Double
-          ∷ handed (withUsed 1) ∷ ok Audit ∷ no 6 (Delete 21) ∷ no 6 (Rejuvenate 28)
-          ∷ handed (withMain (0 ∷ [])) ∷ no 3 Audit ∷ no 3 (Insert 1) ∷ no 3 (Delete 20) ∷ no 3 Double ∷ asked 20 3
-          ∷ handed (withK 20) ∷ no 9 Double ∷ no 3 Audit ∷ [];
+      steps = ok (Insert 20) ∷ handed (with_used 8) ∷ no 2 Audit ∷ no 2 (Insert 1) ∷ no 2 Double ∷ asked 20 2 ∷ handed (with_used 0) ∷ no 4 Audit ∷ no 4 Settle ∷ no 4 Double
+          ∷ handed (with_used 1) ∷ ok Audit ∷ no 6 (Delete 21) ∷ no 6 (Rejuvenate 28)
+          ∷ handed (with_main (0 ∷ [])) ∷ no 3 Audit ∷ no 3 (Insert 1) ∷ no 3 (Delete 20) ∷ no 3 Double ∷ asked 20 3
+          ∷ handed (with_k 20) ∷ no 9 Double ∷ no 3 Audit ∷ [];
     }
     -- 6: voids with a full queue, a queue that is not empty, and an annex with no room
     ∷ record {
       after = 0;
-      steps = ok (Insert 20) ∷ ok Double ∷ ok Double ∷ handed (withAnnex (9 ∷ 9 ∷ 9 ∷ 9 ∷ 9 ∷ 9 ∷ 9 ∷ [])) ∷ no 10 Double
-          ∷ handed (withAnnex (replicate 8 9)) ∷ handed (withQueue []) ∷ ok Double ∷ no 7 (Delete 20) ∷ no 7 (Rejuvenate 20)
-          ∷ handed (withQueue (5 ∷ [])) ∷ ok (Delete 20) ∷ no 8 Double ∷ ok Audit ∷ no 6 (Delete 20) ∷ ok Settle ∷ allZero ∷ [];
+      steps = ok (Insert 20) ∷ ok Double ∷ ok Double ∷ handed (with_annex (9 ∷ 9 ∷ 9 ∷ 9 ∷ 9 ∷ 9 ∷ 9 ∷ [])) ∷ no 10 Double
+          ∷ handed (with_annex (replicate 8 9)) ∷ handed (with_queue []) ∷ ok Double ∷ no 7 (Delete 20) ∷ no 7 (Rejuvenate 20)
+          ∷ handed (with_queue (5 ∷ [])) ∷ ok (Delete 20) ∷ no 8 Double ∷ ok Audit ∷ no 6 (Delete 20) ∷ ok Settle ∷ all_zero ∷ [];
     }
     -- 7: Rejuvenate of a shortened entry with bits, and of a fresh one, which changes nothing
     ∷ record {
@@ -212,8 +212,8 @@ further =
     ∷ []
 
 -- a widening filter, W 4: the first doubling widens by 2
-unfoldable pub begunWidening : Outcome
-begunWidening = start 3 3 1 (replicate 8 1) [] (replicate 8 1)
+unfoldable pub begun_widening : Outcome
+begun_widening = start 3 3 1 (replicate 8 1) [] (replicate 8 1)
 
 unfoldable pub widened : List Case
 widened =

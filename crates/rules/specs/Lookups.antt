@@ -4,22 +4,22 @@
 use Rattle.std.specs.Prelude.{ℕ, zero, suc, ◌*◌, ◌^◌, true, false, ◌&&◌, List, [], ◌∷◌, length, leb, ltb, eqb}
 use Rattle.lists.specs.Lists.{bit, within}
 use Rattle.lists.specs.Runs.{hits}
-use Rattle.slots.specs.Payload.{canonicalSlot, matches}
+use Rattle.slots.specs.Payload.{canonical_slot, matches}
 use Rattle.layout.specs.Decode.{run_at}
 use Rattle.layout.specs.Bytes.{words_of}
-use Rattle.directory.specs.Places.{partIn}
-use Rattle.rules.specs.Record.{Filter, inUse, annexUsed}
-use Rattle.rules.specs.Refusals.{refusal, recordRight}
+use Rattle.directory.specs.Places.{part_in}
+use Rattle.rules.specs.Record.{Filter, in_use, annex_used}
+use Rattle.rules.specs.Refusals.{refusal, record_right}
 
 unfoldable pub part : Filter → List ℕ → ℕ → List ℕ
-part r annex b = elim (recordRight r && leb (annexUsed r) (length annex)) [ true ↦ partIn b (inUse r) annex | false ↦ [] ]
+part r annex b = elim (record_right r && leb (annex_used r) (length annex)) [ true ↦ part_in b (in_use r) annex | false ↦ [] ]
 
-unfoldable pub bytesNumber : ℕ → ℕ → ℕ → ℕ
-bytesNumber k w n =
+unfoldable pub bytes_number : ℕ → ℕ → ℕ → ℕ
+bytes_number k w n =
     refusal (record { right = within 3 20 k && within 4 26 w; number = 2 } ∷ record { right = eqb n (4 * 2 ^ k); number = 3 } ∷ [])
 
 unfoldable pub answer_in : ℕ → ℕ → List ℕ → ℕ → ℕ
-answer_in k w main h = bit (ltb 0 (length (hits (matches w k h) (run_at main (canonicalSlot k h)))))
+answer_in k w main h = bit (ltb 0 (length (hits (matches w k h) (run_at main (canonical_slot k h)))))
 
-unfoldable pub queryBytes : ℕ → ℕ → List ℕ → ℕ → ℕ
-queryBytes k w bytes h = elim (bytesNumber k w (length bytes)) [ zero ↦ answer_in k w (words_of bytes) h | suc n ↦ suc n ]
+unfoldable pub query_bytes : ℕ → ℕ → List ℕ → ℕ → ℕ
+query_bytes k w bytes h = elim (bytes_number k w (length bytes)) [ zero ↦ answer_in k w (words_of bytes) h | suc n ↦ suc n ]

@@ -4,7 +4,7 @@ use Rattle.std.specs.Prelude.{ℕ, zero, suc, ◌+◌, ◌-◌, ◌*◌, ◌^◌
 use Rattle.lists.specs.Lists.{bit}
 use Rattle.lists.specs.Runs.{Runs, add, erase, hits, at}
 use Rattle.slots.specs.Numbers.{limit}
-use Rattle.slots.specs.Payload.{void, tombstone, length_of, canonicalSlot, matches, freshPayload}
+use Rattle.slots.specs.Payload.{void, tombstone, length_of, canonical_slot, matches, fresh_payload}
 use Rattle.layout.specs.Machine.{layout}
 use Rattle.layout.specs.Decode.{decode, run_at}
 use Rattle.rules.specs.Record.{Filter, change, fresh, width}
@@ -13,28 +13,28 @@ use Rattle.rules.specs.Calls.{Outcome, give, refused, asked}
 
 -- the canonical slot of a hash, and its fresh entry
 abbrev pub home : Filter → ℕ → ℕ
-home r h = canonicalSlot r.k h
+home r h = canonical_slot r.k h
 
-abbrev pub freshEntry : Filter → ℕ → ℕ
-freshEntry r h = freshPayload (width r) (fresh r) r.k h
+abbrev pub fresh_entry : Filter → ℕ → ℕ
+fresh_entry r h = fresh_payload (width r) (fresh r) r.k h
 
 -- the entries of the run of h that match it, the longest first: in a rising run longer fingerprints come first
-unfoldable pub matchesIn : Filter → List ℕ → ℕ → List ℕ
-matchesIn r main h = hits (matches (width r) r.k h) (run_at main (home r h))
+unfoldable pub matches_in : Filter → List ℕ → ℕ → List ℕ
+matches_in r main h = hits (matches (width r) r.k h) (run_at main (home r h))
 
 -- the longest match, if there is one
 unfoldable pub best : Filter → List ℕ → ℕ → ℕ
-best r main h = get_or (matchesIn r main h) 0 (tombstone (width r))
+best r main h = get_or (matches_in r main h) 0 (tombstone (width r))
 
 abbrev pub matched : Filter → List ℕ → ℕ → Bool
-matched r main h = ltb 0 (length (matchesIn r main h))
+matched r main h = ltb 0 (length (matches_in r main h))
 
-abbrev pub bestIsVoid : Filter → List ℕ → ℕ → Bool
-bestIsVoid r main h = eqb (best r main h) (void (width r))
+abbrev pub best_is_void : Filter → List ℕ → ℕ → Bool
+best_is_void r main h = eqb (best r main h) (void (width r))
 
 -- number 7: "the queue is full (its length is 2^20 or the number of words lent)"
-abbrev pub queueFull : Filter → List ℕ → Bool
-queueFull r queue = eqb r.queued (2 ^ 20) || eqb r.queued (length queue)
+abbrev pub queue_full : Filter → List ℕ → Bool
+queue_full r queue = eqb r.queued (2 ^ 20) || eqb r.queued (length queue)
 
 -- entry p of address c becomes entry q
 abbrev pub swap : ℕ → ℕ → ℕ → Runs → Runs
@@ -42,42 +42,42 @@ swap c p q runs = at c (λ run. add q (erase p run)) runs
 
 module _ (r : Filter) (main queue annex : List ℕ) where
   -- QUERY: "yes exactly if an entry of the run matches". "Query answers 0 no, 1 yes."
-  unfoldable pub queryNumber : ℕ
-  queryNumber = refusal (asked r main queue annex [])
+  unfoldable pub query_number : ℕ
+  query_number = refusal (asked r main queue annex [])
 
   unfoldable pub query : ℕ → ℕ
-  query h = elim queryNumber [ zero ↦ bit (matched r main h) | suc n ↦ suc n ]
+  query h = elim query_number [ zero ↦ bit (matched r main h) | suc n ↦ suc n ]
 
   -- INSERT: "adds a fresh entry"
-  unfoldable pub insertNumber : ℕ
-  insertNumber = refusal (asked r main queue annex (record { right = not (eqb r.used (limit r.k)); number = 5 } ∷ []))
+  unfoldable pub insert_number : ℕ
+  insert_number = refusal (asked r main queue annex (record { right = not (eqb r.used (limit r.k)); number = 5 } ∷ []))
 
   unfoldable pub inserted : ℕ → Outcome
   inserted h =
       record {
         number = 0;
         rec = change r r.k (r.used + 1) r.queued r.dir;
-        main = layout (at (home r h) (add (freshEntry r h)) (decode main));
+        main = layout (at (home r h) (add (fresh_entry r h)) (decode main));
         queue = queue;
         annex = annex;
       }
 
   unfoldable pub insert : ℕ → Outcome
-  insert h = give insertNumber (inserted h) (refused r main queue annex insertNumber)
+  insert h = give insert_number (inserted h) (refused r main queue annex insert_number)
 
   -- the numbers of Delete and Rejuvenate
-  unfoldable pub takeNumber : ℕ → ℕ
-  takeNumber h =
+  unfoldable pub take_number : ℕ → ℕ
+  take_number h =
       refusal
       (asked r main queue annex
       (record { right = matched r main h; number = 6 }
-      ∷ record { right = not (bestIsVoid r main h && queueFull r queue); number = 7 }
+      ∷ record { right = not (best_is_void r main h && queue_full r queue); number = 7 }
       ∷ []))
 
   -- DELETE: "takes the longest match. One with bits is removed. A void becomes a tombstone and the queue gains canonical slot times 2."
   unfoldable pub deleted : ℕ → Outcome
   deleted h =
-      elim (bestIsVoid r main h) [
+      elim (best_is_void r main h) [
         | true ↦ record {
           number = 0;
           rec = change r r.k r.used (r.queued + 1) r.dir;
@@ -95,7 +95,7 @@ module _ (r : Filter) (main queue annex : List ℕ) where
       ]
 
   unfoldable pub delete : ℕ → Outcome
-  delete h = give (takeNumber h) (deleted h) (refused r main queue annex (takeNumber h))
+  delete h = give (take_number h) (deleted h) (refused r main queue annex (take_number h))
 
   -- REJUVENATE: "the longest match, if shorter than the fresh length, becomes a fresh entry of this hash; otherwise nothing changes. If it was void, the queue
   -- gains canonical slot times 2, plus 1."
@@ -104,13 +104,13 @@ module _ (r : Filter) (main queue annex : List ℕ) where
       elim (ltb (length_of (width r) (best r main h)) (fresh r)) [
         | true ↦ record {
           number = 0;
-          rec = change r r.k r.used (r.queued + bit (bestIsVoid r main h)) r.dir;
-          main = layout (swap (home r h) (best r main h) (freshEntry r h) (decode main));
-          queue = elim (bestIsVoid r main h) [ true ↦ set queue r.queued (home r h * 2 + 1) | false ↦ queue ];
+          rec = change r r.k r.used (r.queued + bit (best_is_void r main h)) r.dir;
+          main = layout (swap (home r h) (best r main h) (fresh_entry r h) (decode main));
+          queue = elim (best_is_void r main h) [ true ↦ set queue r.queued (home r h * 2 + 1) | false ↦ queue ];
           annex = annex;
         }
         | false ↦ refused r main queue annex 0
       ]
 
   unfoldable pub rejuvenate : ℕ → Outcome
-  rejuvenate h = give (takeNumber h) (rejuvenated h) (refused r main queue annex (takeNumber h))
+  rejuvenate h = give (take_number h) (rejuvenated h) (refused r main queue annex (take_number h))

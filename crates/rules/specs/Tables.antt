@@ -15,16 +15,16 @@ pub record Table : Type 0 where
   pub runs : Runs
 
 -- mother hash m of b bits in a table of 2^s slots: its lowest s bits are its canonical slot, and this is its payload
-abbrev pub hashEntry : ℕ → ℕ → ℕ → ℕ
-hashEntry b s m = pay 18 (b - s) (m / 2 ^ s)
+abbrev pub hash_entry : ℕ → ℕ → ℕ → ℕ
+hash_entry b s m = pay 18 (b - s) (m / 2 ^ s)
 
 -- how many mother hashes of the table match address c: their b bits equal the low b bits of c
 unfoldable pub matching : ℕ → Table → ℕ
-matching c t = count (hashEntry t.b t.s (c % 2 ^ t.b)) (get_or t.runs (c % 2 ^ t.s) [])
+matching c t = count (hash_entry t.b t.s (c % 2 ^ t.b)) (get_or t.runs (c % 2 ^ t.s) [])
 
 -- and of all tables
-unfoldable pub mothersOf : ℕ → List Table → ℕ
-mothersOf c ts = sum (matching c) ts
+unfoldable pub mothers_of : ℕ → List Table → ℕ
+mothers_of c ts = sum (matching c) ts
 
 -- the tables of these places, one after the other
 unfoldable pub tables : List Place → List ℕ → List Table
@@ -33,9 +33,9 @@ tables (p ∷ ps) annex =
     record { b = p.b; s = p.s; runs = decode (take (2 ^ p.s) annex) } ∷ tables ps (drop (2 ^ p.s) annex)
 
 -- and back: their words, and the place of each
-unfoldable pub tableWords : List Table → List ℕ
-tableWords [] = []
-tableWords (t ∷ ts) = layout t.runs ++ tableWords ts
+unfoldable pub table_words : List Table → List ℕ
+table_words [] = []
+table_words (t ∷ ts) = layout t.runs ++ table_words ts
 
 unfoldable pub place_of : Table → Place
 place_of t = record { b = t.b; s = t.s; count = total t.runs }

@@ -12,43 +12,43 @@ use lib.ListN.{length, get_or, take, length-map, length-set}
 use lib.Seq.{take-suc, get_or-set_same, get_or-set_other, ext_get_or, get_or-take, length-take-le}
 use borrow.Author.Tests.{eq-eqb, ne_eqb}
 use Rattle.lists.specs.Lists.{every}
-use Rattle.lists.specs.Runs.{Runs, rising, erase, eraseAll, count, at}
+use Rattle.lists.specs.Runs.{Runs, rising, erase, erase_all, count, at}
 use Rattle.lists.proofs.Tests.{eqb-cases, is-yes, is-no}
 use Rattle.lists.proofs.Alls.{All, every_get}
 use Rattle.lists.proofs.RunLaws.{erase-here, erase-next, count_erase_self}
 use Rattle.slots.specs.Payload.{tombstone}
-use Rattle.rules.specs.Settling.{noTombstones}
-use Rattle.keeps.proofs.Cuts.{getD-eraseAll}
-use Rattle.settling.specs.State.{Lost, takeTombstones}
+use Rattle.rules.specs.Settling.{no_tombstones}
+use Rattle.keeps.proofs.Cuts.{get_or-erase_all}
+use Rattle.settling.specs.State.{Lost, take_tombstones}
 use Rattle.settling.proofs.Losses.{Keeps, lost-none, lost_as, lost-then, erase-keeps}
 
 -- ---- all of one payload
 
-eraseAll-zero : (x : ℕ) (run : List ℕ) → count x run ≡ 0 → eraseAll x run ≡ run
-unfolding eraseAll count
-eraseAll-zero x [] e = refl
-eraseAll-zero x (y ∷ ys) e =
-    eqb-cases (λ (l : List ℕ). l ≡ y ∷ ys) x y (eraseAll x ys) (y ∷ eraseAll x ys)
-    (λ q. absurd (omega (arith, is-yes x y q))) (λ q. ap (λ (l : List ℕ). y ∷ l) (eraseAll-zero x ys (omega (arith, is-no x y q))))
+erase_all-zero : (x : ℕ) (run : List ℕ) → count x run ≡ 0 → erase_all x run ≡ run
+unfolding erase_all count
+erase_all-zero x [] e = refl
+erase_all-zero x (y ∷ ys) e =
+    eqb-cases (λ (l : List ℕ). l ≡ y ∷ ys) x y (erase_all x ys) (y ∷ erase_all x ys)
+    (λ q. absurd (omega (arith, is-yes x y q))) (λ q. ap (λ (l : List ℕ). y ∷ l) (erase_all-zero x ys (omega (arith, is-no x y q))))
 
-eraseAll-here : (x y : ℕ) (ys : List ℕ) → x ≡ y → eraseAll x (y ∷ ys) ≡ eraseAll x ys
-unfolding eraseAll
-eraseAll-here x y ys e = rw (eq-eqb x y e)
+erase_all-here : (x y : ℕ) (ys : List ℕ) → x ≡ y → erase_all x (y ∷ ys) ≡ erase_all x ys
+unfolding erase_all
+erase_all-here x y ys e = rw (eq-eqb x y e)
 
-eraseAll-next : (x y : ℕ) (ys : List ℕ) → (x ≡ y → ⊥) → eraseAll x (y ∷ ys) ≡ y ∷ eraseAll x ys
-unfolding eraseAll
-eraseAll-next x y ys e = rw (ne_eqb x y e)
+erase_all-next : (x y : ℕ) (ys : List ℕ) → (x ≡ y → ⊥) → erase_all x (y ∷ ys) ≡ y ∷ erase_all x ys
+unfolding erase_all
+erase_all-next x y ys e = rw (ne_eqb x y e)
 
 -- the first of them may go before
-eraseAll-erase : (x : ℕ) (run : List ℕ) → eraseAll x (erase x run) ≡ eraseAll x run
-eraseAll-erase x [] = unfold erase in refl
-eraseAll-erase x (y ∷ ys) = go (eraseAll-erase x ys) (ℕ_discrete x y)
+erase_all-erase : (x : ℕ) (run : List ℕ) → erase_all x (erase x run) ≡ erase_all x run
+erase_all-erase x [] = unfold erase in refl
+erase_all-erase x (y ∷ ys) = go (erase_all-erase x ys) (ℕ_discrete x y)
   where
-    go : eraseAll x (erase x ys) ≡ eraseAll x ys → Dec (x ≡ y) → eraseAll x (erase x (y ∷ ys)) ≡ eraseAll x (y ∷ ys)
-    go ih (yes e) = ap (eraseAll x) (erase-here x y ys e) ∙ sym (eraseAll-here x y ys e)
+    go : erase_all x (erase x ys) ≡ erase_all x ys → Dec (x ≡ y) → erase_all x (erase x (y ∷ ys)) ≡ erase_all x (y ∷ ys)
+    go ih (yes e) = ap (erase_all x) (erase-here x y ys e) ∙ sym (erase_all-here x y ys e)
     go ih (no e) =
-        ap (eraseAll x) (erase-next x y ys e) ∙ eraseAll-next x y (erase x ys) e
-        ∙ ap (λ (l : List ℕ). y ∷ l) ih ∙ sym (eraseAll-next x y ys e)
+        ap (erase_all x) (erase-next x y ys e) ∙ erase_all-next x y (erase x ys) e
+        ∙ ap (λ (l : List ℕ). y ∷ l) ih ∙ sym (erase_all-next x y ys e)
 
 -- ---- the tombstones of a table
 
@@ -60,26 +60,26 @@ module _ (w : ℕ) where
   abbrev pub taken : ℕ → Runs → Runs
   taken q runs = cond (eqb (q % 2) 0) (at (q / 2) (erase t) runs) runs
 
-  none-at : (runs : Runs) (a : ℕ) → get_or (noTombstones w runs) a [] ≡ eraseAll t (get_or runs a [])
-  unfolding noTombstones
-  none-at runs a = getD-eraseAll t runs a
+  none-at : (runs : Runs) (a : ℕ) → get_or (no_tombstones w runs) a [] ≡ erase_all t (get_or runs a [])
+  unfolding no_tombstones
+  none-at runs a = get_or-erase_all t runs a
 
-  none-length : (runs : Runs) → length (noTombstones w runs) ≡ length runs
-  unfolding noTombstones
-  none-length runs = length-map runs (eraseAll t)
+  none-length : (runs : Runs) → length (no_tombstones w runs) ≡ length runs
+  unfolding no_tombstones
+  none-length runs = length-map runs (erase_all t)
 
-  none-at-one : (runs : Runs) (c : ℕ) → noTombstones w (at c (erase t) runs) ≡ noTombstones w runs
+  none-at-one : (runs : Runs) (c : ℕ) → no_tombstones w (at c (erase t) runs) ≡ no_tombstones w runs
   none-at-one runs c =
-      ext_get_or [] (noTombstones w (at c (erase t) runs)) (noTombstones w runs)
+      ext_get_or [] (no_tombstones w (at c (erase t) runs)) (no_tombstones w runs)
       (none-length (at c (erase t) runs) ∙ length-set runs c (erase t (get_or runs c [])) ∙ sym (none-length runs))
       (λ a h. let l : a < length runs = omega (arith, none-length (at c (erase t) runs), length-set runs c (erase t (get_or runs c []))) in
       none-at (at c (erase t) runs) a ∙ go a l (ℕ_discrete a c) ∙ sym (none-at runs a))
     where
-      go : (a : ℕ) → a < length runs → Dec (a ≡ c) → eraseAll t (get_or (at c (erase t) runs) a []) ≡ eraseAll t (get_or runs a [])
+      go : (a : ℕ) → a < length runs → Dec (a ≡ c) → erase_all t (get_or (at c (erase t) runs) a []) ≡ erase_all t (get_or runs a [])
       go a l (yes e) =
-          subst (λ (y : ℕ). eraseAll t (get_or (at c (erase t) runs) y []) ≡ eraseAll t (get_or runs y [])) (sym e)
-          (ap (eraseAll t) (get_or-set_same runs c (erase t (get_or runs c [])) [] (omega arith)) ∙ eraseAll-erase t (get_or runs c []))
-      go a l (no e) = ap (eraseAll t) (get_or-set_other runs c a (erase t (get_or runs c [])) [] e)
+          subst (λ (y : ℕ). erase_all t (get_or (at c (erase t) runs) y []) ≡ erase_all t (get_or runs y [])) (sym e)
+          (ap (erase_all t) (get_or-set_same runs c (erase t (get_or runs c [])) [] (omega arith)) ∙ erase_all-erase t (get_or runs c []))
+      go a l (no e) = ap (erase_all t) (get_or-set_other runs c a (erase t (get_or runs c [])) [] e)
 
   -- as many as even words name the address
   abbrev pub Named : List ℕ → Runs → Type 0
@@ -108,30 +108,30 @@ module _ (w : ℕ) where
   unfolding count
   named-odd q ws runs e n a l = n a l ∙ omega (arith, is-no (a * 2) q (λ s. e (omega arith)))
 
-  pub all-taken : (ws : List ℕ) (runs : Runs) → All (λ q. q / 2 < length runs) ws → Named ws runs → takeTombstones w ws runs ≡ noTombstones w runs
-  unfolding takeTombstones count
+  pub all-taken : (ws : List ℕ) (runs : Runs) → All (λ q. q / 2 < length runs) ws → Named ws runs → take_tombstones w ws runs ≡ no_tombstones w runs
+  unfolding take_tombstones count
   all-taken [] runs h n =
-      ext_get_or [] runs (noTombstones w runs) (sym (none-length runs)) (λ a l. sym (eraseAll-zero t (get_or runs a []) (n a l)) ∙ sym (none-at runs a))
+      ext_get_or [] runs (no_tombstones w runs) (sym (none-length runs)) (λ a l. sym (erase_all-zero t (get_or runs a []) (n a l)) ∙ sym (none-at runs a))
   all-taken (q ∷ ws) runs h n = go (all-taken ws) (ℕ_discrete (q % 2) 0)
     where
-      go : ((rs : Runs) → All (λ p. p / 2 < length rs) ws → Named ws rs → takeTombstones w ws rs ≡ noTombstones w rs) → Dec (q % 2 ≡ 0) → takeTombstones w ws (taken q runs) ≡ noTombstones w runs
+      go : ((rs : Runs) → All (λ p. p / 2 < length rs) ws → Named ws rs → take_tombstones w ws rs ≡ no_tombstones w rs) → Dec (q % 2 ≡ 0) → take_tombstones w ws (taken q runs) ≡ no_tombstones w runs
       go ih (yes e) =
           let l : length (at (q / 2) (erase t) runs) ≡ length runs = length-set runs (q / 2) (erase t (get_or runs (q / 2) [])) in
-          ap (λ (y : Bool). takeTombstones w ws (cond y (at (q / 2) (erase t) runs) runs)) (eq-eqb (q % 2) 0 e)
+          ap (λ (y : Bool). take_tombstones w ws (cond y (at (q / 2) (erase t) runs) runs)) (eq-eqb (q % 2) 0 e)
           ∙ ih (at (q / 2) (erase t) runs) (subst (λ (m : ℕ). All (λ p. p / 2 < m) ws) (sym l) h.1) (named-even q ws runs e h.0 n)
           ∙ none-at-one runs (q / 2)
       go ih (no e) =
-          ap (λ (y : Bool). takeTombstones w ws (cond y (at (q / 2) (erase t) runs) runs)) (ne_eqb (q % 2) 0 e) ∙ ih runs h.1 (named-odd q ws runs e n)
+          ap (λ (y : Bool). take_tombstones w ws (cond y (at (q / 2) (erase t) runs) runs)) (ne_eqb (q % 2) 0 e) ∙ ih runs h.1 (named-odd q ws runs e n)
 
   -- ---- the loop
 
-  snoc : (ws : List ℕ) (q : ℕ) (runs : Runs) → takeTombstones w (ws ++ q ∷ []) runs ≡ taken q (takeTombstones w ws runs)
-  unfolding takeTombstones
+  snoc : (ws : List ℕ) (q : ℕ) (runs : Runs) → take_tombstones w (ws ++ q ∷ []) runs ≡ taken q (take_tombstones w ws runs)
+  unfolding take_tombstones
   snoc [] q runs = refl
   snoc (p ∷ ws) q runs = snoc ws q (taken p runs)
 
-  take-keeps : (ws : List ℕ) → Keeps (takeTombstones w ws)
-  unfolding takeTombstones
+  take-keeps : (ws : List ℕ) → Keeps (take_tombstones w ws)
+  unfolding take_tombstones
   take-keeps [] = record { long = λ runs. refl; rises = λ runs r. r }
   take-keeps (q ∷ ws) =
       let k = take-keeps ws in
@@ -146,27 +146,27 @@ module _ (w : ℕ) where
       order false runs r = r
 
   module _ (queue main₀ : List ℕ) where
-    pub tombs-start : Lost (takeTombstones w (take 0 queue)) main₀ main₀ 0
-    unfolding takeTombstones
-    tombs-start = lost-none (takeTombstones w []) main₀ (λ runs. refl)
+    pub tombs-start : Lost (take_tombstones w (take 0 queue)) main₀ main₀ 0
+    unfolding take_tombstones
+    tombs-start = lost-none (take_tombstones w []) main₀ (λ runs. refl)
 
-    module _ (main : List ℕ) (j gone q : ℕ) (h : j < length queue) (eq : q ≡ get_or queue j 0) (v : Lost (takeTombstones w (take j queue)) main₀ main gone) where
-      more : (runs : Runs) → takeTombstones w (take (j + 1) queue) runs ≡ taken q (takeTombstones w (take j queue) runs)
+    module _ (main : List ℕ) (j gone q : ℕ) (h : j < length queue) (eq : q ≡ get_or queue j 0) (v : Lost (take_tombstones w (take j queue)) main₀ main gone) where
+      more : (runs : Runs) → take_tombstones w (take (j + 1) queue) runs ≡ taken q (take_tombstones w (take j queue) runs)
       more runs =
           let e : take (j + 1) queue ≡ take j queue ++ q ∷ [] = rw (add-one, take-suc queue j 0) (ap (λ (y : ℕ). take j queue ++ y ∷ []) (sym eq)) in
-          ap (λ (l : List ℕ). takeTombstones w l runs) e ∙ snoc (take j queue) q runs
+          ap (λ (l : List ℕ). take_tombstones w l runs) e ∙ snoc (take j queue) q runs
 
-      pub tombs-odd : (q % 2 ≡ 0 → ⊥) → Lost (takeTombstones w (take (j + 1) queue)) main₀ main gone
+      pub tombs-odd : (q % 2 ≡ 0 → ⊥) → Lost (take_tombstones w (take (j + 1) queue)) main₀ main gone
       tombs-odd e =
-          lost_as (takeTombstones w (take j queue)) (takeTombstones w (take (j + 1) queue)) main₀ main gone
-          (λ runs l. sym (more runs ∙ ap (λ (y : Bool). cond y (at (q / 2) (erase t) (takeTombstones w (take j queue) runs)) (takeTombstones w (take j queue) runs)) (ne_eqb (q % 2) 0 e))) v
+          lost_as (take_tombstones w (take j queue)) (take_tombstones w (take (j + 1) queue)) main₀ main gone
+          (λ runs l. sym (more runs ∙ ap (λ (y : Bool). cond y (at (q / 2) (erase t) (take_tombstones w (take j queue) runs)) (take_tombstones w (take j queue) runs)) (ne_eqb (q % 2) 0 e))) v
 
-      pub tombs-even : q % 2 ≡ 0 → (x n : ℕ) → x ≡ t → (main' : List ℕ) → Lost (at (q / 2) (erase x)) main main' n → Lost (takeTombstones w (take (j + 1) queue)) main₀ main' (gone + n)
+      pub tombs-even : q % 2 ≡ 0 → (x n : ℕ) → x ≡ t → (main' : List ℕ) → Lost (at (q / 2) (erase x)) main main' n → Lost (take_tombstones w (take (j + 1) queue)) main₀ main' (gone + n)
       tombs-even e x n ex main' u =
           let u' : Lost (at (q / 2) (erase t)) main main' n = subst (λ (y : ℕ). Lost (at (q / 2) (erase y)) main main' n) ex u in
-          lost_as (λ runs. at (q / 2) (erase t) (takeTombstones w (take j queue) runs)) (takeTombstones w (take (j + 1) queue)) main₀ main' (gone + n)
-          (λ runs l. sym (more runs ∙ ap (λ (y : Bool). cond y (at (q / 2) (erase t) (takeTombstones w (take j queue) runs)) (takeTombstones w (take j queue) runs)) (eq-eqb (q % 2) 0 e)))
-          (lost-then (takeTombstones w (take j queue)) (at (q / 2) (erase t)) main₀ main main' gone n (take-keeps (take j queue)) v u')
+          lost_as (λ runs. at (q / 2) (erase t) (take_tombstones w (take j queue) runs)) (take_tombstones w (take (j + 1) queue)) main₀ main' (gone + n)
+          (λ runs l. sym (more runs ∙ ap (λ (y : Bool). cond y (at (q / 2) (erase t) (take_tombstones w (take j queue) runs)) (take_tombstones w (take j queue) runs)) (eq-eqb (q % 2) 0 e)))
+          (lost-then (take_tombstones w (take j queue)) (at (q / 2) (erase t)) main₀ main main' gone n (take-keeps (take j queue)) v u')
 
 -- the address that word j names is within the table
 pub names-inside : (queue : List ℕ) (n m j : ℕ) → n ≤ length queue → T (every (λ q. ltb (q / 2) m) (take n queue)) → j < n → get_or queue j 0 / 2 < m
@@ -179,15 +179,15 @@ pub record Clearing (w n : ℕ) (queue main₀ main : List ℕ) (gone j : ℕ) :
   pub size : length main ≡ length main₀
   pub low : j ≤ n
   pub few : gone ≤ j
-  pub lost : Lost (takeTombstones w (take j queue)) main₀ main gone
+  pub lost : Lost (take_tombstones w (take j queue)) main₀ main gone
 
 pub clear-start : (w n : ℕ) (queue main₀ : List ℕ) → Clearing w n queue main₀ main₀ 0 0
 clear-start w n queue main₀ = record { size = refl; low = omega arith; few = omega arith; lost = tombs-start w queue main₀ }
 
-pub clear-end : (w n : ℕ) (queue main₀ main : List ℕ) (gone j : ℕ) → Clearing w n queue main₀ main gone j → n ≤ j → Lost (takeTombstones w (take n queue)) main₀ main gone
+pub clear-end : (w n : ℕ) (queue main₀ main : List ℕ) (gone j : ℕ) → Clearing w n queue main₀ main gone j → n ≤ j → Lost (take_tombstones w (take n queue)) main₀ main gone
 clear-end w n queue main₀ main gone j v h =
     let e : j ≡ n = omega (arith, v.low) in
-    subst (λ (i : ℕ). Lost (takeTombstones w (take i queue)) main₀ main gone) e v.lost
+    subst (λ (i : ℕ). Lost (take_tombstones w (take i queue)) main₀ main gone) e v.lost
 
 module _ (w n : ℕ) (queue main₀ main : List ℕ) (gone j : ℕ) (v : Clearing w n queue main₀ main gone j) (h : j < n) (l : n ≤ length queue) where
   pub clear-past : (get_or queue j 0 % 2 ≡ 0 → ⊥) → (main' : List ℕ) (gone' : ℕ) → main' ≡ main → gone' ≡ gone → Clearing w n queue main₀ main' gone' (j + 1)

@@ -11,12 +11,12 @@ use lib.Pow.{pow_pos}
 use lib.ListN.{length, get_or, set, length-set}
 use lib.Seq.{get_or-set_same, get_or-set_other, ext_get_or}
 use borrow.Author.Tests.{lt-ltb, le-ltb, eq-eqb, ne_eqb}
-use Rattle.lists.specs.Lists.{mapAt}
+use Rattle.lists.specs.Lists.{map_at}
 use Rattle.lists.specs.Runs.{Runs, erase, at}
-use Rattle.lists.proofs.Alls.{All, all-get, get-all, length-mapAt, getD-mapAt}
+use Rattle.lists.proofs.Alls.{All, all-get, get-all, length-map_at, get_or-map_at}
 use Rattle.lists.proofs.RunLaws.{Rises, rises-erase}
 use Rattle.slots.specs.Payload.{void}
-use Rattle.rules.specs.Settling.{takeVoids}
+use Rattle.rules.specs.Settling.{take_voids}
 use Rattle.keeps.proofs.Cuts.{cut, cut-is, cut-length, cut_at}
 use Rattle.settling.specs.State.{Lost}
 use Rattle.settling.proofs.Losses.{Keeps, lost-none, lost_as, lost-then, all-rises, rises-all}
@@ -51,7 +51,7 @@ apart n d e l m q = go (dec_le (e / n) (d / n))
 
 -- the voids of the addresses below d are taken
 unfoldable pub partly : ℕ → ℕ → ℕ → ℕ → Runs → Runs
-partly w c b d runs = mapAt (λ e run. cond (ltb e d) (cut w c b e run) run) 0 runs
+partly w c b d runs = map_at (λ e run. cond (ltb e d) (cut w c b e run) run) 0 runs
 
 module _ (w c b : ℕ) (runs : Runs) where
   part : ℕ → ℕ → List ℕ → List ℕ
@@ -67,11 +67,11 @@ module _ (w c b : ℕ) (runs : Runs) where
 
   partly-length : (d : ℕ) → length (partly w c b d runs) ≡ length runs
   unfolding partly
-  partly-length d = length-mapAt (λ e run. cond (ltb e d) (cut w c b e run) run) 0 runs
+  partly-length d = length-map_at (λ e run. cond (ltb e d) (cut w c b e run) run) 0 runs
 
   partly-at : (d e : ℕ) → e < length runs → get_or (partly w c b d runs) e [] ≡ part d e (get_or runs e [])
   unfolding partly part
-  partly-at d e h = getD-mapAt (part d) 0 runs e [] [] h ∙ ap (λ m. part d m (get_or runs e [])) (zero-add e)
+  partly-at d e h = get_or-map_at (part d) 0 runs e [] [] h ∙ ap (λ m. part d m (get_or runs e [])) (zero-add e)
 
   -- at the first of the addresses nothing is taken yet
   pub partly-first : (d : ℕ) → d ≡ c % 2 ^ b → partly w c b d runs ≡ runs
@@ -84,9 +84,9 @@ module _ (w c b : ℕ) (runs : Runs) where
       go e (no h) = part-high d e (get_or runs e []) (omega arith)
 
   -- past the last address all is taken
-  pub partly-last : (d : ℕ) → length runs ≤ d → partly w c b d runs ≡ takeVoids w c b runs
+  pub partly-last : (d : ℕ) → length runs ≤ d → partly w c b d runs ≡ take_voids w c b runs
   partly-last d q =
-      ext_get_or [] (partly w c b d runs) (takeVoids w c b runs) (partly-length d ∙ sym (cut-length w c b runs))
+      ext_get_or [] (partly w c b d runs) (take_voids w c b runs) (partly-length d ∙ sym (cut-length w c b runs))
       (λ e h. let l : e < length runs = omega (arith, partly-length d) in partly-at d e l ∙ part_low d e (get_or runs e []) (omega arith) ∙ sym (cut_at w c b runs e l))
 
   -- from one of the addresses to the next
@@ -156,8 +156,8 @@ module _ (w c b : ℕ) (main₀ : List ℕ) where
   voids-start d q = lost-none (partly w c b d) main₀ (λ runs. partly-first w c b runs d q)
 
   module _ (main : List ℕ) (d gone : ℕ) (v : Lost (partly w c b d) main₀ main gone) where
-    pub voids-end : length main₀ ≤ d → Lost (takeVoids w c b) main₀ main gone
-    voids-end h = lost_as (partly w c b d) (takeVoids w c b) main₀ main gone (λ runs l. partly-last w c b runs d (omega arith)) v
+    pub voids-end : length main₀ ≤ d → Lost (take_voids w c b) main₀ main gone
+    voids-end h = lost_as (partly w c b d) (take_voids w c b) main₀ main gone (λ runs l. partly-last w c b runs d (omega arith)) v
 
     module _ (q : d % 2 ^ b ≡ c % 2 ^ b) (step : ℕ) (es : step ≡ 2 ^ b) where
       further : (f : ℕ → Runs → Runs) → ((runs : Runs) → f (d + 2 ^ b) runs ≡ f (d + step) runs)

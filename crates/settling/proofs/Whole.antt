@@ -16,20 +16,20 @@ use Rattle.slots.proofs.PayloadLaws.{void-tombstone}
 use Rattle.layout.specs.Machine.{layout}
 use Rattle.layout.specs.Decode.{decode}
 use Rattle.directory.specs.declared.Place.{Place}
-use Rattle.directory.specs.Places.{placesInUse, placesNotInUse, placesRight, zeroPlace, directoryRight, wordsTaken, trim, fifteen}
+use Rattle.directory.specs.Places.{places_in_use, places_not_in_use, places_right, zero_place, directory_right, words_taken, trim, fifteen}
 use Rattle.directory.proofs.Laws.{right-rest}
-use Rattle.rules.specs.Record.{Filter, change, width, inUse}
-use Rattle.rules.specs.Tables.{Table, tables, tableWords, place_of}
-use Rattle.rules.specs.Sound.{mainEntry}
-use Rattle.rules.specs.Settling.{Held, longest, takeVoids, settleFound, settleWord, settleAll, noTombstones}
-use Rattle.rules.specs.Slow.{heldAfter, settled}
+use Rattle.rules.specs.Record.{Filter, change, width, in_use}
+use Rattle.rules.specs.Tables.{Table, tables, table_words, place_of}
+use Rattle.rules.specs.Sound.{main_entry}
+use Rattle.rules.specs.Settling.{Held, longest, take_voids, settle_found, settle_word, settle_all, no_tombstones}
+use Rattle.rules.specs.Slow.{held_after, settled}
 use Rattle.keeps.proofs.Holds.{Holds, length-words, holds-right}
 use Rattle.keeps.proofs.State.{Fine, fine}
 use Rattle.keeps.proofs.Bounds.{Bounds, bounds}
 use Rattle.keeps.proofs.Cuts.{cut-is, cut-length, cut_at}
 use Rattle.keeps.proofs.Annex.{Read}
 use Rattle.annex.proofs.Entry.{size-20, size-8}
-use Rattle.settling.specs.State.{heldIn, Right, Holding, Lost, takeTombstones}
+use Rattle.settling.specs.State.{held_in, Right, Holding, Lost, take_tombstones}
 use Rattle.settling.specs.Ready.{Numbers, Ready, Leaves}
 use Rattle.settling.proofs.Losses.{rises-all}
 use Rattle.settling.proofs.Tombstones.{Named, all-taken}
@@ -41,7 +41,7 @@ module _ (w : ℕ) (h : 0 < w) where
   Same : Runs → Runs → Type 0
   Same xs ys = (length xs ≡ length ys) × ((a : ℕ) → a < length ys → count (tombstone w) (get_or xs a []) ≡ count (tombstone w) (get_or ys a []))
 
-  voids-same : (c b : ℕ) (runs : Runs) → Same (takeVoids w c b runs) runs
+  voids-same : (c b : ℕ) (runs : Runs) → Same (take_voids w c b runs) runs
   unfolding Same
   voids-same c b runs = (
     cut-length w c b runs,
@@ -51,21 +51,21 @@ module _ (w : ℕ) (h : 0 < w) where
         (count-erase-other (void w) (tombstone w) (get_or runs a []) (λ e. void-tombstone w h (sym e))),
   )
 
-  found-same : (c b : ℕ) (x : Held) → Same (settleFound w c b x).main x.main
-  unfolding settleFound Same
+  found-same : (c b : ℕ) (x : Held) → Same (settle_found w c b x).main x.main
+  unfolding settle_found Same
   found-same c zero x = (refl, λ a l. refl)
   found-same c (suc b) x = voids-same c (suc b) x.main
 
-  all_same : (ws : List ℕ) (x : Held) → Same (settleAll w ws x).main x.main
-  unfolding settleAll settleWord Same
+  all_same : (ws : List ℕ) (x : Held) → Same (settle_all w ws x).main x.main
+  unfolding settle_all settle_word Same
   all_same [] x = (refl, λ a l. refl)
   all_same (q ∷ ws) x =
-      let y = settleWord w (q / 2) x in
+      let y = settle_word w (q / 2) x in
       let s = all_same ws y in
       let u = found-same (q / 2) (longest (q / 2) x.annex) x in
       (s.0 ∙ u.0, λ a l. s.1 a (omega (arith, u.0)) ∙ u.1 a l)
 
-  pub named-after : (us ws : List ℕ) (x : Held) → Named w us x.main → Named w us (settleAll w ws x).main
+  pub named-after : (us ws : List ℕ) (x : Held) → Named w us x.main → Named w us (settle_all w ws x).main
   unfolding Same
   named-after us ws x n a l = let s = all_same ws x in s.1 a (omega (arith, s.0)) ∙ n a (omega (arith, s.0))
 
@@ -85,7 +85,7 @@ module _ {k w used queued : ℕ} {places : List Place} {main queue annex : List 
   n = g.numbers
 
   right-r : Right r.k (width r) r.used main annex r.dir
-  unfolding directoryRight
+  unfolding directory_right
   right-r =
       record {
         k_3 = z.k_3;
@@ -95,7 +95,7 @@ module _ {k w used queued : ℕ} {places : List Place} {main queue annex : List 
         used-fits = v.used-fits;
         main-long = length-words v.table;
         main-right = holds-right v.table;
-        directory = and_both (placesRight r.k 5 (inUse r)) (every zeroPlace (placesNotInUse r.dir)) v.places v.zeros;
+        directory = and_both (places_right r.k 5 (in_use r)) (every zero_place (places_not_in_use r.dir)) v.places v.zeros;
         annex-long = v.annex-long;
         annex-right = v.annex-right;
       }
@@ -128,10 +128,10 @@ module _ {k w used queued : ℕ} {places : List Place} {main queue annex : List 
 
   -- what the queue words leave
   abbrev pub after : Held
-  after = settleAll w words (heldIn main annex places)
+  after = settle_all w words (held_in main annex places)
 
-  module _ (left : ℕ) (main₁ annex₁ : List ℕ) (dir : List Place) (hold : Holding after (drop (wordsTaken (placesInUse places)) annex) k w left main₁ annex₁ dir) where
-    t : Holds (mainEntry w k) k left main₁ (decode main₁)
+  module _ (left : ℕ) (main₁ annex₁ : List ℕ) (dir : List Place) (hold : Holding after (drop (words_taken (places_in_use places)) annex) k w left main₁ annex₁ dir) where
+    t : Holds (main_entry w k) k left main₁ (decode main₁)
     t = table k w left main₁ annex₁ dir hold.right
 
     is : decode main₁ ≡ after.main
@@ -153,50 +153,50 @@ module _ {k w used queued : ℕ} {places : List Place} {main queue annex : List 
               (subst (λ (x : ℕ). All (λ q. T (ltb (q / 2) x)) words) (sym l) (all_map (λ q. q / 2 < 2 ^ k) (λ q. T (ltb (q / 2) (2 ^ k))) (λ q h. lt→ltb (q / 2) (2 ^ k) h) words names)),
         )
 
-    pub zeros-left : T (every zeroPlace (placesNotInUse dir))
+    pub zeros-left : T (every zero_place (places_not_in_use dir))
     zeros-left = right-rest k dir hold.right.directory
 
-    module _ (main₂ : List ℕ) (gone : ℕ) (lost : Lost (takeTombstones w words) main₁ main₂ gone) where
+    module _ (main₂ : List ℕ) (gone : ℕ) (lost : Lost (take_tombstones w words) main₁ main₂ gone) where
       few : total (decode main₁) < length (decode main₁)
       few = omega (arith, t.room, t.size)
 
-      all-gone : takeTombstones w words (decode main₁) ≡ noTombstones w after.main
+      all-gone : take_tombstones w words (decode main₁) ≡ no_tombstones w after.main
       all-gone =
           all-taken w words (decode main₁) inside
-          (subst (Named w words) (sym is) (named-after w hold.right.w_1 words words (heldIn main annex places) named))
-          ∙ ap (noTombstones w) is
+          (subst (Named w words) (sym is) (named-after w hold.right.w_1 words words (held_in main annex places) named))
+          ∙ ap (no_tombstones w) is
 
-      main-left : main₂ ≡ layout (noTombstones w after.main)
+      main-left : main₂ ≡ layout (no_tombstones w after.main)
       main-left = lost.words (decode main₁) t.laid few (rises-all (decode main₁) t.rises) ∙ ap layout all-gone
 
-      counted : gone + total (noTombstones w after.main) ≡ left
+      counted : gone + total (no_tombstones w after.main) ≡ left
       counted = ap (λ (x : Runs). gone + total x) (sym all-gone) ∙ lost.counted (decode main₁) t.laid few (rises-all (decode main₁) t.rises) ∙ t.counted
 
       pub fewer : gone ≤ left
       fewer = omega (arith, counted)
 
-      rd : Read k 5 (placesInUse dir) annex₁
+      rd : Read k 5 (places_in_use dir) annex₁
       rd = is_read k w left main₁ annex₁ dir hold.right
 
-      tables-are : tables (placesInUse dir) annex₁ ≡ after.annex
+      tables-are : tables (places_in_use dir) annex₁ ≡ after.annex
       tables-are = ap (λ (x : Held). x.annex) hold.holds
 
-      pub leaves : (kept : List Place) → kept ≡ fifteen (trim (placesInUse dir)) → (s : Filter) → Numbers s k w used queued places
-          → Leaves (settled s main queue annex (heldAfter s main queue annex)) main₂ annex₁ (left - gone) kept
+      pub leaves : (kept : List Place) → kept ≡ fifteen (trim (places_in_use dir)) → (s : Filter) → Numbers s k w used queued places
+          → Leaves (settled s main queue annex (held_after s main queue annex)) main₂ annex₁ (left - gone) kept
       unfolding settled change
       leaves kept e s m =
           record {
-            main-is = main-left ∙ ap₂ (λ (x : ℕ) (y : Held). layout (noTombstones x y.main)) (sym m.w-is) held;
-            annex-is = rd.words ∙ ap₂ (λ (x : List Table) (y : List ℕ). tableWords x ++ y) tables-are hold.past
-                ∙ ap₂ (λ (y : Held) (d : List Place). tableWords y.annex ++ drop (wordsTaken (placesInUse d)) annex) held (sym m.places-are);
-            used-is = here ∙ ap₂ (λ (x : ℕ) (y : Held). total (noTombstones x y.main)) (sym m.w-is) held;
+            main-is = main-left ∙ ap₂ (λ (x : ℕ) (y : Held). layout (no_tombstones x y.main)) (sym m.w-is) held;
+            annex-is = rd.words ∙ ap₂ (λ (x : List Table) (y : List ℕ). table_words x ++ y) tables-are hold.past
+                ∙ ap₂ (λ (y : Held) (d : List Place). table_words y.annex ++ drop (words_taken (places_in_use d)) annex) held (sym m.places-are);
+            used-is = here ∙ ap₂ (λ (x : ℕ) (y : Held). total (no_tombstones x y.main)) (sym m.w-is) held;
             places-are = e ∙ ap (λ (x : List Place). fifteen (trim x)) (sym rd.of ∙ ap (map place_of) tables-are) ∙ ap (λ (y : Held). fifteen (trim (map place_of y.annex))) held;
           }
         where
-          here : left - gone ≡ total (noTombstones w after.main)
+          here : left - gone ≡ total (no_tombstones w after.main)
           here = omega (arith, counted)
 
-          held : after ≡ heldAfter s main queue annex
-          held = unfold heldAfter in
-              ap₂ (λ (x y : ℕ). settleAll x (take y queue) (heldIn main annex places)) (sym m.w-is) (sym m.queued-is)
-              ∙ ap (λ (d : List Place). settleAll (width s) (take s.queued queue) (heldIn main annex d)) (sym m.places-are)
+          held : after ≡ held_after s main queue annex
+          held = unfold held_after in
+              ap₂ (λ (x y : ℕ). settle_all x (take y queue) (held_in main annex places)) (sym m.w-is) (sym m.queued-is)
+              ∙ ap (λ (d : List Place). settle_all (width s) (take s.queued queue) (held_in main annex d)) (sym m.places-are)

@@ -19,19 +19,19 @@ use Rattle.slots.proofs.NumberLaws.{limit-lt}
 use Rattle.layout.specs.Machine.{layout}
 use Rattle.layout.specs.Decode.{decode}
 use Rattle.directory.specs.declared.Place.{Place}
-use Rattle.directory.specs.Places.{noPlace, taken, placesInUse, placesNotInUse, placesRight, zeroPlace, directoryRight, wordsTaken}
+use Rattle.directory.specs.Places.{no_place, taken, places_in_use, places_not_in_use, places_right, zero_place, directory_right, words_taken}
 use Rattle.directory.proofs.Front.{front-get}
 use Rattle.directory.proofs.Laws.{right-used, right-rest, in-use-set, rest-set}
-use Rattle.rules.specs.Tables.{Table, tables, tableWords, place_of}
-use Rattle.rules.specs.Sound.{tableRight, mainEntry}
-use Rattle.rules.specs.Settling.{Held, takeVoids, settleWord, settleAll}
+use Rattle.rules.specs.Tables.{Table, tables, table_words, place_of}
+use Rattle.rules.specs.Sound.{table_right, main_entry}
+use Rattle.rules.specs.Settling.{Held, take_voids, settle_word, settle_all}
 use Rattle.keeps.proofs.Holds.{Holds, length-words, laid_out, holds-right, right-holds}
 use Rattle.keeps.proofs.Annex.{TableFine, Tables, Read, read, Written, written, tables_more}
 use Rattle.keeps.proofs.Take.{tables-changed, without-fine}
 use Rattle.keeps.proofs.Cuts.{cut-length, cut_all}
-use Rattle.annex.specs.Stored.{noTable, stored, Placed, LongestAt, without, FoundAt, TakenAt}
+use Rattle.annex.specs.Stored.{no_table, stored, Placed, LongestAt, without, FoundAt, TakenAt}
 use Rattle.annex.proofs.Search.{tables-length, tables-at}
-use Rattle.settling.specs.State.{heldIn, Right, Holding, Lost}
+use Rattle.settling.specs.State.{held_in, Right, Holding, Lost}
 use Rattle.settling.proofs.Losses.{rises-all}
 use Rattle.settling.proofs.Longest.{table_at, longest-none, longest-at, take_at, word_none, word-found}
 
@@ -42,44 +42,44 @@ map-set (t ∷ ts) (suc i) u = ap (λ (l : List Place). place_of t ∷ l) (map-s
 
 module _ (k w used : ℕ) (main annex : List ℕ) (places : List Place) (g : Right k w used main annex places) where
   abbrev ps : List Place
-  ps = placesInUse places
+  ps = places_in_use places
 
   abbrev ts : List Table
   ts = stored places annex
 
   abbrev rest : List ℕ
-  rest = drop (wordsTaken ps) annex
+  rest = drop (words_taken ps) annex
 
-  pub table : Holds (mainEntry w k) k used main (decode main)
-  table = right-holds (mainEntry w k) k used main g.main-long (omega (arith, g.used-fits, limit-lt k)) g.main-right
+  pub table : Holds (main_entry w k) k used main (decode main)
+  table = right-holds (main_entry w k) k used main g.main-long (omega (arith, g.used-fits, limit-lt k)) g.main-right
 
   pub is_read : Read k 5 ps annex
   is_read = read k 5 ps annex (right-used k places g.directory) g.annex-right g.annex-long
 
   pub placed : Placed places annex
-  unfolding directoryRight
+  unfolding directory_right
   placed =
       record {
         directory =
-            and_both (placesRight 20 5 ps) (every zeroPlace (placesNotInUse places))
-            (subst (λ (l : List Place). T (placesRight 20 5 l)) is_read.of (written 20 5 ts rest (tables_more k 20 5 ts g.k-20 is_read.are)).places)
+            and_both (places_right 20 5 ps) (every zero_place (places_not_in_use places))
+            (subst (λ (l : List Place). T (places_right 20 5 l)) is_read.of (written 20 5 ts rest (tables_more k 20 5 ts g.k-20 is_read.are)).places)
             (right-rest k places g.directory);
         long = g.annex-long;
       }
 
   module _ (c i : ℕ) (l : LongestAt c ts i) where
     -- nothing matches
-    pub holds-none : 15 ≤ i → Holding (settleWord w c (heldIn main annex places)) rest k w used main annex places
+    pub holds-none : 15 ≤ i → Holding (settle_word w c (held_in main annex places)) rest k w used main annex places
     holds-none h =
         record {
           right = g;
-          holds = sym (word_none c w (heldIn main annex places) (longest-none c ts (λ j q. l.later j (λ z. absurd (omega arith)) q)));
+          holds = sym (word_none c w (held_in main annex places) (longest-none c ts (λ j q. l.later j (λ z. absurd (omega arith)) q)));
           past = refl;
         }
 
     module _ (h : i < 15) where
       abbrev t : Table
-      t = get_or ts i noTable
+      t = get_or ts i no_table
 
       inside : i < length ts
       inside = l.inside h
@@ -90,23 +90,23 @@ module _ (k w used : ℕ) (main annex : List ℕ) (places : List Place) (g : Rig
       pub in_use : i < length ps
       in_use = omega (arith, inside, tables-length ps annex)
 
-      same_length : t.b ≡ (get_or places i noPlace).b
-      same_length = ap (λ (t : Table). t.b) (tables-at ps annex i in_use) ∙ ap (λ (p : Place). p.b) (front-get taken places i noPlace in_use)
+      same_length : t.b ≡ (get_or places i no_place).b
+      same_length = ap (λ (t : Table). t.b) (tables-at ps annex i in_use) ∙ ap (λ (p : Place). p.b) (front-get taken places i no_place in_use)
 
-      pub short : (get_or places i noPlace).b ≤ k
+      pub short : (get_or places i no_place).b ≤ k
       short = omega (arith, fine.short, same_length)
 
       pub found_at : FoundAt places annex i c
       found_at = record { placed = placed; right = g.annex-right; inside = in_use; match = l.here h }
 
-      is_word : settleWord w c (heldIn main annex places) ≡ record { main = takeVoids w c t.b (decode main); annex = set ts i (without t c) }
+      is_word : settle_word w c (held_in main annex places) ≡ record { main = take_voids w c t.b (decode main); annex = set ts i (without t c) }
       is_word =
-          word-found c w (heldIn main annex places) t.b (omega (arith, fine.above)) (longest-at c k 5 ts i is_read.are inside (l.here h) (λ j q m. l.later j (λ _. q) m))
-          ∙ ap (λ (x : List Table). record { main = takeVoids w c t.b (decode main); annex = x }) (take_at c k 5 ts i is_read.are inside)
+          word-found c w (held_in main annex places) t.b (omega (arith, fine.above)) (longest-at c k 5 ts i is_read.are inside (l.here h) (λ j q m. l.later j (λ _. q) m))
+          ∙ ap (λ (x : List Table). record { main = take_voids w c t.b (decode main); annex = x }) (take_at c k 5 ts i is_read.are inside)
 
       -- what is left
       abbrev runs : Runs
-      runs = takeVoids w c t.b (decode main)
+      runs = take_voids w c t.b (decode main)
 
       abbrev us : List Table
       us = set ts i (without t c)
@@ -114,11 +114,11 @@ module _ (k w used : ℕ) (main annex : List ℕ) (places : List Place) (g : Rig
       us-are : Tables k 5 us
       us-are =
           subst (Tables k 5) (sym (set_split ts i (without t c) inside))
-          (tables-changed k 5 (take i ts) t (without t c) (drop (suc i) ts) refl (λ m f. without-fine k m c t f (l.here h)) (subst (Tables k 5) (split_at ts i noTable inside) is_read.are))
+          (tables-changed k 5 (take i ts) t (without t c) (drop (suc i) ts) refl (λ m f. without-fine k m c t f (l.here h)) (subst (Tables k 5) (split_at ts i no_table inside) is_read.are))
 
-      module _ (main' : List ℕ) (gone : ℕ) (v : Lost (takeVoids w c (get_or places i noPlace).b) main main' gone) where
-        lost : Lost (takeVoids w c t.b) main main' gone
-        lost = subst (λ (b : ℕ). Lost (takeVoids w c b) main main' gone) (sym same_length) v
+      module _ (main' : List ℕ) (gone : ℕ) (v : Lost (take_voids w c (get_or places i no_place).b) main main' gone) where
+        lost : Lost (take_voids w c t.b) main main' gone
+        lost = subst (λ (b : ℕ). Lost (take_voids w c b) main main' gone) (sym same_length) v
 
         few : total (decode main) < length (decode main)
         few = omega (arith, table.room, table.size)
@@ -135,44 +135,44 @@ module _ (k w used : ℕ) (main annex : List ℕ) (places : List Place) (g : Rig
         pub fewer : gone ≤ used
         fewer = omega (arith, counted)
 
-        new : Holds (mainEntry w k) k (total runs) (layout runs) runs
+        new : Holds (main_entry w k) k (total runs) (layout runs) runs
         new =
-            laid_out (mainEntry w k) k runs (cut-length w c t.b (decode main) ∙ table.size) (omega (arith, counted, g.used-fits, limit-lt k))
+            laid_out (main_entry w k) k runs (cut-length w c t.b (decode main) ∙ table.size) (omega (arith, counted, g.used-fits, limit-lt k))
             (cut_all w c t.b (decode main) Rises (λ run r. rises-erase (void w) run r) table.rises)
-            (cut_all w c t.b (decode main) (All (λ p. T (mainEntry w k p))) (λ run r. all-erase (λ p. T (mainEntry w k p)) (void w) run r) table.passes)
+            (cut_all w c t.b (decode main) (All (λ p. T (main_entry w k p))) (λ run r. all-erase (λ p. T (main_entry w k p)) (void w) run r) table.passes)
 
-        main-right : T (tableRight (mainEntry w k) (used - gone) main')
+        main-right : T (table_right (main_entry w k) (used - gone) main')
         main-right =
             let n : total runs ≡ used - gone = omega (arith, counted) in
-            subst (λ (m : ℕ). T (tableRight (mainEntry w k) m main')) n (subst (λ (x : List ℕ). T (tableRight (mainEntry w k) (total runs) x)) (sym words) (holds-right new))
+            subst (λ (m : ℕ). T (table_right (main_entry w k) m main')) n (subst (λ (x : List ℕ). T (table_right (main_entry w k) (total runs) x)) (sym words) (holds-right new))
 
         module _ (annex' : List ℕ) (dir : List Place) (z : TakenAt places annex i c annex' dir) where
           is-taken : T (taken (place_of (without t c)))
           unfolding place_of
           is-taken = true-test (taken (place_of (without t c))) (ap not (ne_eqb t.b 0 (λ e. omega (arith, fine.above))))
 
-          used-places : placesInUse dir ≡ map place_of us
+          used-places : places_in_use dir ≡ map place_of us
           used-places =
-              ap placesInUse z.counts ∙ in-use-set places i (place_of (without t c)) in_use is-taken
+              ap places_in_use z.counts ∙ in-use-set places i (place_of (without t c)) in_use is-taken
               ∙ ap (λ (x : List Place). set x i (place_of (without t c))) (sym is_read.of) ∙ sym (map-set ts i (without t c))
 
-          no-places : placesNotInUse dir ≡ placesNotInUse places
-          no-places = ap placesNotInUse z.counts ∙ rest-set places i (place_of (without t c)) in_use is-taken
+          no-places : places_not_in_use dir ≡ places_not_in_use places
+          no-places = ap places_not_in_use z.counts ∙ rest-set places i (place_of (without t c)) in_use is-taken
 
           wr : Written k 5 us rest
           wr = written k 5 us rest us-are
 
-          taken-long : length (tableWords us) ≡ wordsTaken (placesInUse dir)
-          taken-long = wr.long ∙ ap wordsTaken (sym used-places)
+          taken-long : length (table_words us) ≡ words_taken (places_in_use dir)
+          taken-long = wr.long ∙ ap words_taken (sym used-places)
 
-          directory : T (directoryRight k dir)
-          unfolding directoryRight
+          directory : T (directory_right k dir)
+          unfolding directory_right
           directory =
-              and_both (placesRight k 5 (placesInUse dir)) (every zeroPlace (placesNotInUse dir))
-              (subst (λ (x : List Place). T (placesRight k 5 x)) (sym used-places) wr.places)
-              (subst (λ (x : List Place). T (every zeroPlace x)) (sym no-places) (right-rest k places g.directory))
+              and_both (places_right k 5 (places_in_use dir)) (every zero_place (places_not_in_use dir))
+              (subst (λ (x : List Place). T (places_right k 5 x)) (sym used-places) wr.places)
+              (subst (λ (x : List Place). T (every zero_place x)) (sym no-places) (right-rest k places g.directory))
 
-          pub holds-found : Holding (settleWord w c (heldIn main annex places)) rest k w (used - gone) main' annex' dir
+          pub holds-found : Holding (settle_word w c (held_in main annex places)) rest k w (used - gone) main' annex' dir
           holds-found =
               record {
                 right = record {
@@ -184,37 +184,37 @@ module _ (k w used : ℕ) (main annex : List ℕ) (places : List Place) (g : Rig
                   main-long = ap length words ∙ length-words new;
                   main-right = main-right;
                   directory = directory;
-                  annex-long = omega (arith, taken-long, ap length z.words, length-append (tableWords us) rest);
+                  annex-long = omega (arith, taken-long, ap length z.words, length-append (table_words us) rest);
                   annex-right = rw (used-places, z.words) wr.right;
                 };
                 holds = ap₂ (λ (x : Runs) (y : List Table). record { main = x; annex = y }) (ap decode words ∙ new.held) (ap₂ tables used-places z.words ∙ wr.back) ∙ sym is_word;
-                past = ap (drop (wordsTaken (placesInUse dir))) z.words ∙ drop_at (tableWords us) rest (wordsTaken (placesInUse dir)) taken-long;
+                past = ap (drop (words_taken (places_in_use dir))) z.words ∙ drop_at (table_words us) rest (words_taken (places_in_use dir)) taken-long;
               }
 
 -- ---- one word after the other
 
-all_snoc : (w : ℕ) (ws : List ℕ) (q : ℕ) (x : Held) → settleAll w (ws ++ q ∷ []) x ≡ settleWord w (q / 2) (settleAll w ws x)
-unfolding settleAll
+all_snoc : (w : ℕ) (ws : List ℕ) (q : ℕ) (x : Held) → settle_all w (ws ++ q ∷ []) x ≡ settle_word w (q / 2) (settle_all w ws x)
+unfolding settle_all
 all_snoc w [] q x = refl
-all_snoc w (p ∷ ws) q x = all_snoc w ws q (settleWord w (p / 2) x)
+all_snoc w (p ∷ ws) q x = all_snoc w ws q (settle_word w (p / 2) x)
 
 pub words-start : (k w used : ℕ) (queue main annex : List ℕ) (places : List Place) → Right k w used main annex places
-    → Holding (settleAll w (take 0 queue) (heldIn main annex places)) (drop (wordsTaken (placesInUse places)) annex) k w used main annex places
-unfolding settleAll
+    → Holding (settle_all w (take 0 queue) (held_in main annex places)) (drop (words_taken (places_in_use places)) annex) k w used main annex places
+unfolding settle_all
 words-start k w used queue main annex places g = record { right = g; holds = refl; past = refl }
 
 pub words-next : (k w : ℕ) (queue : List ℕ) (j c : ℕ) (x : Held) (rest : List ℕ) (used used' : ℕ) (main main' annex annex' : List ℕ) (dir dir' : List Place)
-    → j < length queue → c ≡ get_or queue j 0 / 2 → Holding (settleAll w (take j queue) x) rest k w used main annex dir
-    → Holding (settleWord w c (heldIn main annex dir)) (drop (wordsTaken (placesInUse dir)) annex) k w used' main' annex' dir'
-    → Holding (settleAll w (take (j + 1) queue) x) rest k w used' main' annex' dir'
+    → j < length queue → c ≡ get_or queue j 0 / 2 → Holding (settle_all w (take j queue) x) rest k w used main annex dir
+    → Holding (settle_word w c (held_in main annex dir)) (drop (words_taken (places_in_use dir)) annex) k w used' main' annex' dir'
+    → Holding (settle_all w (take (j + 1) queue) x) rest k w used' main' annex' dir'
 words-next k w queue j c x rest used used' main main' annex annex' dir dir' h e v u =
     let t : take (j + 1) queue ≡ take j queue ++ get_or queue j 0 ∷ [] = rw (add-one, take-suc queue j 0) in
-    let s : settleWord w c (settleAll w (take j queue) x) ≡ settleAll w (take (j + 1) queue) x
-    = ap (λ (n : ℕ). settleWord w n (settleAll w (take j queue) x)) e ∙ sym (all_snoc w (take j queue) (get_or queue j 0) x) ∙ ap (λ (l : List ℕ). settleAll w l x) (sym t) in
-    record { right = u.right; holds = u.holds ∙ ap (settleWord w c) v.holds ∙ s; past = u.past ∙ v.past }
+    let s : settle_word w c (settle_all w (take j queue) x) ≡ settle_all w (take (j + 1) queue) x
+    = ap (λ (n : ℕ). settle_word w n (settle_all w (take j queue) x)) e ∙ sym (all_snoc w (take j queue) (get_or queue j 0) x) ∙ ap (λ (l : List ℕ). settle_all w l x) (sym t) in
+    record { right = u.right; holds = u.holds ∙ ap (settle_word w c) v.holds ∙ s; past = u.past ∙ v.past }
 
 pub words-end : (k w : ℕ) (queue : List ℕ) (j n : ℕ) (x : Held) (rest : List ℕ) (used : ℕ) (main annex : List ℕ) (dir : List Place) → j ≤ n → n ≤ j
-    → Holding (settleAll w (take j queue) x) rest k w used main annex dir → Holding (settleAll w (take n queue) x) rest k w used main annex dir
+    → Holding (settle_all w (take j queue) x) rest k w used main annex dir → Holding (settle_all w (take n queue) x) rest k w used main annex dir
 words-end k w queue j n x rest used main annex dir h l v =
     let e : j ≡ n = omega arith in
-    subst (λ (i : ℕ). Holding (settleAll w (take i queue) x) rest k w used main annex dir) e v
+    subst (λ (i : ℕ). Holding (settle_all w (take i queue) x) rest k w used main annex dir) e v

@@ -3,7 +3,7 @@
 use Rattle.std.specs.Prelude.{ℕ, ◌≡◌, List, T, length}
 use Rattle.directory.specs.declared.Place.{Place}
 use Rattle.rules.specs.Record.{Filter, width}
-use Rattle.rules.specs.Refusals.{recordRight, slicesRight}
+use Rattle.rules.specs.Refusals.{record_right, slices_right}
 use Rattle.rules.specs.Sound.{sound}
 use Rattle.rules.specs.Calls.{Outcome}
 
@@ -19,8 +19,8 @@ pub record Numbers (r : Filter) (k w used queued : ℕ) (places : List Place) : 
 pub record Ready (k w used queued : ℕ) (places : List Place) (main queue annex : List ℕ) : Type 0 where
   pub r : Filter
   pub numbers : Numbers r k w used queued places
-  pub record-right : T (recordRight r)
-  pub slices-right : T (slicesRight r (length main) (length queue) (length annex))
+  pub record-right : T (record_right r)
+  pub slices-right : T (slices_right r (length main) (length queue) (length annex))
   pub is-sound : T (sound r main queue annex)
 
 -- the words and the numbers of an outcome

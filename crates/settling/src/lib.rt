@@ -2,11 +2,11 @@
 ghost use Rattle.std.specs.Prelude.{◌≡◌, ◌/◌, ◌^◌, ◌≤◌, ◌<◌, T, ltb, length, take, drop};
 ghost use Rattle.lists.specs.Lists.{every};
 ghost use Rattle.lists.specs.Runs.{erase, at};
-ghost use Rattle.directory.specs.Places.{placesInUse, wordsTaken};
+ghost use Rattle.directory.specs.Places.{places_in_use, words_taken};
 ghost use Rattle.rules.specs.Record.{Filter};
-ghost use Rattle.rules.specs.Settling.{takeVoids, settleWord, settleAll};
-ghost use Rattle.rules.specs.Slow.{heldAfter, settled};
-ghost use Rattle.settling.specs.State.{heldIn, Right, Holding, Lost, takeTombstones};
+ghost use Rattle.rules.specs.Settling.{take_voids, settle_word, settle_all};
+ghost use Rattle.rules.specs.Slow.{held_after, settled};
+ghost use Rattle.settling.specs.State.{held_in, Right, Holding, Lost, take_tombstones};
 ghost use Rattle.settling.specs.Ready.{Numbers, Ready, Leaves};
 
 use directory::Place;
@@ -28,7 +28,7 @@ fn take_one(main: &mut [u32], c: usize, x: u32) -> u32
 // At each address but c with the low b bits of c one void goes, if there is one: how many went. No other address is visited.
 fn take_voids(main: &mut [u32], k: u32, w: u32, c: u32, b: u32) -> u32
     requires { (3 ≤ k) × (k ≤ 20) × (1 ≤ w) × (w ≤ 26) × (b ≤ k) × (length main.old ≡ 2 ^ k) }
-    ensures { Lost (takeVoids w c b) main.old main.new result }
+    ensures { Lost (take_voids w c b) main.old main.new result }
 {
     let size = slots::pow2(k);
     let step = slots::pow2(b);
@@ -55,7 +55,7 @@ fn settle_word(
     places: [Place; 15],
 ) -> Settled
     requires { Right k w used main.old annex.old places }
-    ensures { Holding (settleWord w c (heldIn main.old annex.old places)) (drop (wordsTaken (placesInUse places)) annex.old)
+    ensures { Holding (settle_word w c (held_in main.old annex.old places)) (drop (words_taken (places_in_use places)) annex.old)
         k w result.used main.new annex.new result.places }
 {
     let i = annex::longest_place(annex, places, c);
@@ -83,8 +83,8 @@ fn settle_words(
     places: [Place; 15],
 ) -> Settled
     requires { (n ≤ length queue.now) × Right k w used main.old annex.old places }
-    ensures { Holding (settleAll w (take n queue.now) (heldIn main.old annex.old places))
-        (drop (wordsTaken (placesInUse places)) annex.old) k w result.used main.new annex.new result.places }
+    ensures { Holding (settle_all w (take n queue.now) (held_in main.old annex.old places))
+        (drop (words_taken (places_in_use places)) annex.old) k w result.used main.new annex.new result.places }
 {
     let mut left = used;
     let mut dir = places;
@@ -107,7 +107,7 @@ fn settle_words(
 fn take_tombstones(main: &mut [u32], queue: &[u32], w: u32, n: usize) -> u32
     requires { (w ≤ 26) × (1 < length main.old) × (length main.old ≤ 1048576) × (n ≤ 1048576) × (n ≤ length queue.now)
         × T (every (λ q. ltb (q / 2) (length main.old)) (take n queue.now)) }
-    ensures { Lost (takeTombstones w (take n queue.now)) main.old main.new result }
+    ensures { Lost (take_tombstones w (take n queue.now)) main.old main.new result }
 {
     let tombstone = slots::tombstone_of(w);
     let mut gone: u32 = 0;
@@ -135,7 +135,7 @@ pub fn settle(
 ) -> Settled
     requires { Ready k w used queued places main.old queue.now annex.old }
     ensures { (r : Filter) → Numbers r k w used queued places
-        → Leaves (settled r main.old queue.now annex.old (heldAfter r main.old queue.now annex.old))
+        → Leaves (settled r main.old queue.now annex.old (held_after r main.old queue.now annex.old))
         main.new annex.new result.used result.places }
 {
     let s = settle_words(main, queue, annex, k, w, used, queued, places);

@@ -8,7 +8,7 @@ use native.Mathlib.Omega.{arith}
 use lib.Dec.{eqb, leb, eqb→eq, leb→le}
 use lib.ListN.{get_or}
 use lib.Pow.{pow_pos}
-use Rattle.slots.specs.Numbers.{limit, firstPower, roundedUpLog, widening, extra}
+use Rattle.slots.specs.Numbers.{limit, first_power, rounded_up_log, widening, extra}
 use Rattle.slots.proofs.Table.{at, both}
 
 pub limit-lt : (n : ℕ) → limit n < 2 ^ n
@@ -28,7 +28,7 @@ pub record Widening (x v : ℕ) : Type 0 where
   pub rising : v ≤ widening (x + 1)
 
 pub widening-at : (x : ℕ) → x < 18 → Widening x (get_or table x 0)
-unfolding table right firstPower roundedUpLog widening
+unfolding table right first_power rounded_up_log widening
 widening-at x h =
     let v = get_or table x 0 in
     let t = both (eqb v (widening x)) (leb v 10 && leb v (widening (x + 1))) (at right table tt x h) in

@@ -10,7 +10,7 @@ use lib.Dec.{ltb, eqb, T}
 use lib.Pow.{pow_pos, pow_mono, pow-add}
 use lib.Arith.{digits_mod}
 use borrow.Author.Tests.{ltb-true, ltb-false, eqb-true, lt-ltb, le-ltb, eq-eqb}
-use Rattle.slots.specs.Payload.{pay, void, tombstone, rest_of, length_of, fingerprintOf, hashBits, matches, freshPayload}
+use Rattle.slots.specs.Payload.{pay, void, tombstone, rest_of, length_of, fingerprint_of, hash_bits, matches, fresh_payload}
 
 -- the payloads with m bits left
 pub record Range (w p m : ℕ) : Type 0 where
@@ -94,14 +94,14 @@ pay-mod w l f hl hf = ap (λ x. x % 2 ^ l) e ∙ digits_mod (2 ^ (w - l) - 2) hf
         let t : (2 ^ (w - l) - 2) * 2 ^ l ≡ 2 ^ (w - l) * 2 ^ l - 2 * 2 ^ l = mul_comm _ _ ∙ mul-sub (2 ^ l) (2 ^ (w - l)) 2 ∙ ap₂ ◌-◌ (mul_comm _ _) (mul_comm _ _) in
         omega (arith, s, t, pow-suc 2 l, ap (λ x. 2 ^ x) (add-one l))
 
-pub bits-pay : (w l f : ℕ) → l < w → f < 2 ^ l → fingerprintOf w (pay w l f) ≡ f
-unfolding fingerprintOf
+pub bits-pay : (w l f : ℕ) → l < w → f < 2 ^ l → fingerprint_of w (pay w l f) ≡ f
+unfolding fingerprint_of
 bits-pay w l f hl hf = ap (λ x. pay w l f % 2 ^ x) (length-pay w l f hl hf) ∙ pay-mod w l f hl hf
 
 -- encode is injective
 pub pay-inj : (w l f m g : ℕ) → l < w → f < 2 ^ l → m < w → g < 2 ^ m → pay w l f ≡ pay w m g → (l ≡ m) × (f ≡ g)
 pay-inj w l f m g hl hf hm hg e =
-    (sym (length-pay w l f hl hf) ∙ ap (length_of w) e ∙ length-pay w m g hm hg, sym (bits-pay w l f hl hf) ∙ ap (fingerprintOf w) e ∙ bits-pay w m g hm hg)
+    (sym (length-pay w l f hl hf) ∙ ap (length_of w) e ∙ length-pay w m g hm hg, sym (bits-pay w l f hl hf) ∙ ap (fingerprint_of w) e ∙ bits-pay w m g hm hg)
 
 -- decode: a payload is a tombstone, or is what it decodes to
 pub rest-zero : (w p : ℕ) → p < 2 ^ w → rest_of w p ≡ 0 → p ≡ tombstone w
@@ -121,20 +121,20 @@ pay-of w p l hp e =
     let up : 2 ^ (l + 1) ≤ 2 ^ w = pow_mono le in
     (p + 2 ^ (l + 1) - 2 ^ w, omega (arith, r.low, r.high, s), omega (arith, r.low, r.high, s, up))
 
-pub pay-bits : (w p : ℕ) → p < tombstone w → (length_of w p < w) × (fingerprintOf w p < 2 ^ length_of w p) × (p ≡ pay w (length_of w p) (fingerprintOf w p)) × (rest_of w p ≡ length_of w p + 1)
+pub pay-bits : (w p : ℕ) → p < tombstone w → (length_of w p < w) × (fingerprint_of w p < 2 ^ length_of w p) × (p ≡ pay w (length_of w p) (fingerprint_of w p)) × (rest_of w p ≡ length_of w p + 1)
 unfolding length_of tombstone
 pay-bits w p hp = go (rest_of w p) refl
   where
     hw : p < 2 ^ w
     hw = omega (arith, hp, pow_pos w)
 
-    go : (m : ℕ) → rest_of w p ≡ m → (length_of w p < w) × (fingerprintOf w p < 2 ^ length_of w p) × (p ≡ pay w (length_of w p) (fingerprintOf w p)) × (rest_of w p ≡ length_of w p + 1)
+    go : (m : ℕ) → rest_of w p ≡ m → (length_of w p < w) × (fingerprint_of w p < 2 ^ length_of w p) × (p ≡ pay w (length_of w p) (fingerprint_of w p)) × (rest_of w p ≡ length_of w p + 1)
     go zero e = let z = rest-zero w p hw e in absurd (omega (arith, z, hp))
     go (suc l) e =
         let d = pay-of w p l hw (e ∙ sym (add-one l)) in
         let hl : l < w = omega (arith, rest_le w p, e) in
         let el : length_of w p ≡ l = omega (arith, e) in
-        let ef : fingerprintOf w p ≡ d.0 = ap (fingerprintOf w) d.2 ∙ bits-pay w l d.0 hl d.1 in
+        let ef : fingerprint_of w p ≡ d.0 = ap (fingerprint_of w) d.2 ∙ bits-pay w l d.0 hl d.1 in
         (omega (arith, el, hl), rw (el, ef) d.1, rw (el, ef) d.2, omega arith)
 
 -- a larger payload is as long or shorter
@@ -181,7 +181,7 @@ bits-tombstone w p l e = omega (arith, tombstone-rest w, ap (rest_of w) e)
 -- what a match says
 pub record Match (w k h p : ℕ) : Type 0 where
   pub some : 0 < rest_of w p
-  pub same : fingerprintOf w p ≡ hashBits h k (length_of w p)
+  pub same : fingerprint_of w p ≡ hash_bits h k (length_of w p)
 
 and_parts : (a b : Bool) → a && b ≡ true → (a ≡ true) × (b ≡ true)
 and_parts true b e = (refl, e)
@@ -190,7 +190,7 @@ and_parts false b e = absurd (subst (λ (x : Bool). T x) (sym e) tt)
 pub match-true : (w k h p : ℕ) → matches w k h p ≡ true → Match w k h p
 unfolding matches
 match-true w k h p e =
-    let d = and_parts (ltb 0 (rest_of w p)) (eqb (fingerprintOf w p) (hashBits h k (length_of w p))) e in
+    let d = and_parts (ltb 0 (rest_of w p)) (eqb (fingerprint_of w p) (hash_bits h k (length_of w p))) e in
     record { some = ltb-true _ _ d.0; same = eqb-true _ _ d.1 }
 
 pub true-match : (w k h p : ℕ) → Match w k h p → matches w k h p ≡ true
@@ -199,14 +199,14 @@ true-match w k h p m = ap₂ ◌&&◌ (lt-ltb _ _ m.some) (eq-eqb _ _ m.same)
 
 pub none-matches : (w k h p : ℕ) → rest_of w p ≡ 0 → matches w k h p ≡ false
 unfolding matches
-none-matches w k h p e = ap (λ b. b && eqb (fingerprintOf w p) (hashBits h k (length_of w p))) (le-ltb 0 (rest_of w p) (omega arith))
+none-matches w k h p e = ap (λ b. b && eqb (fingerprint_of w p) (hash_bits h k (length_of w p))) (le-ltb 0 (rest_of w p) (omega arith))
 
 pub tombstone-matches : (w k h : ℕ) → matches w k h (tombstone w) ≡ false
 tombstone-matches w k h = none-matches w k h (tombstone w) (tombstone-rest w)
 
 -- two entries of one length that match one hash are equal
 pub same-match : (w k h p q : ℕ) → p < 2 ^ w → q < 2 ^ w → rest_of w p ≡ rest_of w q → Match w k h p → Match w k h q → p ≡ q
-unfolding length_of fingerprintOf
+unfolding length_of fingerprint_of
 same-match w k h p q hp hq e mp mq =
     let l : ℕ = rest_of w p - 1 in
     let hl : l < w = omega (arith, rest_le w p, mp.some) in
@@ -214,11 +214,11 @@ same-match w k h p q hp hq e mp mq =
     let dq = pay-of w q l hq (omega (arith, mp.some)) in
     let fp : p % 2 ^ l ≡ dp.0 = ap (λ x. x % 2 ^ l) dp.2 ∙ pay-mod w l dp.0 hl dp.1 in
     let fq : q % 2 ^ l ≡ dq.0 = ap (λ x. x % 2 ^ l) dq.2 ∙ pay-mod w l dq.0 hl dq.1 in
-    let hq' : q % 2 ^ l ≡ hashBits h k l = subst (λ x. q % 2 ^ x ≡ hashBits h k x) (omega arith) mq.same in
+    let hq' : q % 2 ^ l ≡ hash_bits h k l = subst (λ x. q % 2 ^ x ≡ hash_bits h k x) (omega arith) mq.same in
     dp.2 ∙ ap (pay w l) (sym fp ∙ mp.same ∙ sym hq' ∙ fq) ∙ sym dq.2
 
 pub void-match : (w k h : ℕ) → 0 < w → Match w k h (void w)
-unfolding void hashBits
+unfolding void hash_bits
 void-match w k h hw =
     record {
       some = omega (arith, void-rest w hw);
@@ -226,28 +226,28 @@ void-match w k h hw =
     }
 
 -- the fresh entry
-pub hash-bits-lt : (h k l : ℕ) → hashBits h k l < 2 ^ l
-unfolding hashBits
+pub hash-bits-lt : (h k l : ℕ) → hash_bits h k l < 2 ^ l
+unfolding hash_bits
 hash-bits-lt h k l = mod-lt (h / 2 ^ k) (pow_pos l)
 
-pub fresh-lt : (w l k h : ℕ) → l < w → freshPayload w l k h < 2 ^ w
-unfolding freshPayload
-fresh-lt w l k h hl = pay-lt w l (hashBits h k l) hl (hash-bits-lt h k l)
+pub fresh-lt : (w l k h : ℕ) → l < w → fresh_payload w l k h < 2 ^ w
+unfolding fresh_payload
+fresh-lt w l k h hl = pay-lt w l (hash_bits h k l) hl (hash-bits-lt h k l)
 
-pub fresh-rest : (w l k h : ℕ) → l < w → rest_of w (freshPayload w l k h) ≡ l + 1
-unfolding freshPayload
-fresh-rest w l k h hl = rest-pay w l (hashBits h k l) hl (hash-bits-lt h k l)
+pub fresh-rest : (w l k h : ℕ) → l < w → rest_of w (fresh_payload w l k h) ≡ l + 1
+unfolding fresh_payload
+fresh-rest w l k h hl = rest-pay w l (hash_bits h k l) hl (hash-bits-lt h k l)
 
-pub fresh-length : (w l k h : ℕ) → l < w → length_of w (freshPayload w l k h) ≡ l
-unfolding freshPayload
-fresh-length w l k h hl = length-pay w l (hashBits h k l) hl (hash-bits-lt h k l)
+pub fresh-length : (w l k h : ℕ) → l < w → length_of w (fresh_payload w l k h) ≡ l
+unfolding fresh_payload
+fresh-length w l k h hl = length-pay w l (hash_bits h k l) hl (hash-bits-lt h k l)
 
-pub fresh-match : (w l k h : ℕ) → l < w → Match w k h (freshPayload w l k h)
-unfolding freshPayload
+pub fresh-match : (w l k h : ℕ) → l < w → Match w k h (fresh_payload w l k h)
+unfolding fresh_payload
 fresh-match w l k h hl =
     record {
       some = omega (arith, fresh-rest w l k h hl);
-      same = bits-pay w l (hashBits h k l) hl (hash-bits-lt h k l) ∙ ap (hashBits h k) (sym (fresh-length w l k h hl));
+      same = bits-pay w l (hash_bits h k l) hl (hash-bits-lt h k l) ∙ ap (hash_bits h k) (sym (fresh-length w l k h hl));
     }
 
 -- order within one length
@@ -261,33 +261,33 @@ pay-lt-inv w l f g lt = omega arith
 
 -- one bit less, in the width v
 unfoldable pub shrink : ℕ → ℕ → ℕ → ℕ
-shrink w v p = pay v (length_of w p - 1) (fingerprintOf w p / 2)
+shrink w v p = pay v (length_of w p - 1) (fingerprint_of w p / 2)
 
 -- order under shrinking, within one half: the lowest bits agree
-pub shrink-order : (w v p q : ℕ) → p < tombstone w → q < tombstone w → length_of w p ≤ v → p < q → 0 < length_of w q → fingerprintOf w p % 2 ≡ fingerprintOf w q % 2 → shrink w v p < shrink w v q
+pub shrink-order : (w v p q : ℕ) → p < tombstone w → q < tombstone w → length_of w p ≤ v → p < q → 0 < length_of w q → fingerprint_of w p % 2 ≡ fingerprint_of w q % 2 → shrink w v p < shrink w v q
 unfolding shrink
 shrink-order w v p q hp hq hv lt pos par = go (dec_lt (length_of w q) (length_of w p))
   where
-    dp : (length_of w p < w) × (fingerprintOf w p < 2 ^ length_of w p) × (p ≡ pay w (length_of w p) (fingerprintOf w p)) × (rest_of w p ≡ length_of w p + 1)
+    dp : (length_of w p < w) × (fingerprint_of w p < 2 ^ length_of w p) × (p ≡ pay w (length_of w p) (fingerprint_of w p)) × (rest_of w p ≡ length_of w p + 1)
     dp = pay-bits w p hp
 
-    dq : (length_of w q < w) × (fingerprintOf w q < 2 ^ length_of w q) × (q ≡ pay w (length_of w q) (fingerprintOf w q)) × (rest_of w q ≡ length_of w q + 1)
+    dq : (length_of w q < w) × (fingerprint_of w q < 2 ^ length_of w q) × (q ≡ pay w (length_of w q) (fingerprint_of w q)) × (rest_of w q ≡ length_of w q + 1)
     dq = pay-bits w q hq
 
     half : (l f : ℕ) → 0 < l → f < 2 ^ l → f / 2 < 2 ^ (l - 1)
     half (suc l) f h lt = omega (arith, pow-suc 2 l, ap (λ x. 2 ^ x) (sub-one (suc l)))
     half zero f h lt = absurd (omega arith)
 
-    go : Dec (length_of w q < length_of w p) → pay v (length_of w p - 1) (fingerprintOf w p / 2) < pay v (length_of w q - 1) (fingerprintOf w q / 2)
+    go : Dec (length_of w q < length_of w p) → pay v (length_of w p - 1) (fingerprint_of w p / 2) < pay v (length_of w q - 1) (fingerprint_of w q / 2)
     go (yes d) =
         range-order v _ (length_of w q - 1 + 1) _ (length_of w p - 1 + 1)
-        (pay-range v (length_of w q - 1) (fingerprintOf w q / 2) (omega arith) (half (length_of w q) (fingerprintOf w q) pos dq.1))
-        (pay-range v (length_of w p - 1) (fingerprintOf w p / 2) (omega arith) (half (length_of w p) (fingerprintOf w p) (omega arith) dp.1))
+        (pay-range v (length_of w q - 1) (fingerprint_of w q / 2) (omega arith) (half (length_of w q) (fingerprint_of w q) pos dq.1))
+        (pay-range v (length_of w p - 1) (fingerprint_of w p / 2) (omega arith) (half (length_of w p) (fingerprint_of w p) (omega arith) dp.1))
         (omega arith)
     go (no nd) =
         let pw : p < 2 ^ w = below-tombstone w p hp in
         let qw : q < 2 ^ w = below-tombstone w q hq in
         let eq : length_of w p ≡ length_of w q = omega (arith, dp.3, dq.3, rising-rest w p q pw qw (omega arith)) in
-        let lt2 : pay w (length_of w p) (fingerprintOf w p) < pay w (length_of w p) (fingerprintOf w q) = subst₂ ◌<◌ dp.2 (dq.2 ∙ ap (λ x. pay w x (fingerprintOf w q)) (sym eq)) lt in
-        let bits : fingerprintOf w p < fingerprintOf w q = pay-lt-inv w (length_of w p) (fingerprintOf w p) (fingerprintOf w q) lt2 in
-        rw eq (pay-order v (length_of w q - 1) (fingerprintOf w p / 2) (fingerprintOf w q / 2) (omega arith) (omega arith))
+        let lt2 : pay w (length_of w p) (fingerprint_of w p) < pay w (length_of w p) (fingerprint_of w q) = subst₂ ◌<◌ dp.2 (dq.2 ∙ ap (λ x. pay w x (fingerprint_of w q)) (sym eq)) lt in
+        let bits : fingerprint_of w p < fingerprint_of w q = pay-lt-inv w (length_of w p) (fingerprint_of w p) (fingerprint_of w q) lt2 in
+        rw eq (pay-order v (length_of w q - 1) (fingerprint_of w p / 2) (fingerprint_of w q / 2) (omega arith) (omega arith))

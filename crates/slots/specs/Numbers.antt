@@ -6,17 +6,17 @@ unfoldable pub limit : ℕ → ℕ
 limit n = 2 ^ n - 2 ^ (n - 3)
 
 -- the first e, of `tries` from e on, with 2^e at least n
-unfoldable pub firstPower : ℕ → ℕ → ℕ → ℕ
-firstPower zero e n = e
-firstPower (suc tries) e n = elim (leb n (2 ^ e)) [ true ↦ e | false ↦ firstPower tries (suc e) n ]
+unfoldable pub first_power : ℕ → ℕ → ℕ → ℕ
+first_power zero e n = e
+first_power (suc tries) e n = elim (leb n (2 ^ e)) [ true ↦ e | false ↦ first_power tries (suc e) n ]
 
 -- the rounded-up log2: the smallest e with 2^e at least n (n tries are enough)
-unfoldable pub roundedUpLog : ℕ → ℕ
-roundedUpLog n = firstPower n 0 n
+unfoldable pub rounded_up_log : ℕ → ℕ
+rounded_up_log n = first_power n 0 n
 
 -- the rule of generation X in the widening regime
 unfoldable pub widening : ℕ → ℕ
-widening x = 2 * roundedUpLog (x + 1)
+widening x = 2 * rounded_up_log (x + 1)
 
 -- extra bits by regime, 0 (fixed) or 1 (widening), and generation
 unfoldable pub extra : ℕ → ℕ → ℕ

@@ -21,20 +21,20 @@ rest_of (suc j) p = cond (ltb p (2 ^ j)) (suc j) (rest_of j (p - 2 ^ j))
 unfoldable pub length_of : ℕ → ℕ → ℕ
 length_of w p = rest_of w p - 1
 
-unfoldable pub fingerprintOf : ℕ → ℕ → ℕ
-fingerprintOf w p = p % 2 ^ length_of w p
+unfoldable pub fingerprint_of : ℕ → ℕ → ℕ
+fingerprint_of w p = p % 2 ^ length_of w p
 
 -- "The lowest k bits of a hash are its canonical slot; the next L bits are a fingerprint of length L."
-unfoldable pub canonicalSlot : ℕ → ℕ → ℕ
-canonicalSlot k h = h % 2 ^ k
+unfoldable pub canonical_slot : ℕ → ℕ → ℕ
+canonical_slot k h = h % 2 ^ k
 
-unfoldable pub hashBits : ℕ → ℕ → ℕ → ℕ
-hashBits h k l = h / 2 ^ k % 2 ^ l
+unfoldable pub hash_bits : ℕ → ℕ → ℕ → ℕ
+hash_bits h k l = h / 2 ^ k % 2 ^ l
 
 -- "An entry matches a hash if it .. is no tombstone, and its L bits equal the hash's bits k to k+L-1. A void matches always."
 unfoldable pub matches : ℕ → ℕ → ℕ → ℕ → Bool
-matches w k h p = ltb 0 (rest_of w p) && eqb (fingerprintOf w p) (hashBits h k (length_of w p))
+matches w k h p = ltb 0 (rest_of w p) && eqb (fingerprint_of w p) (hash_bits h k (length_of w p))
 
 -- the fresh entry of a hash: width w, fresh length l
-unfoldable pub freshPayload : ℕ → ℕ → ℕ → ℕ → ℕ
-freshPayload w l k h = pay w l (hashBits h k l)
+unfoldable pub fresh_payload : ℕ → ℕ → ℕ → ℕ → ℕ
+fresh_payload w l k h = pay w l (hash_bits h k l)

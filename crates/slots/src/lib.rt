@@ -1,7 +1,7 @@
 // One payload and one slot word.
 ghost use Rattle.std.specs.Prelude.{◌≡◌, ◌%◌, ◌^◌, ◌<◌, ◌≤◌};
 ghost use Rattle.slots.specs.Numbers.{limit, extra};
-ghost use Rattle.slots.specs.Payload.{pay, void, tombstone, rest_of, length_of, canonicalSlot, hashBits, matches, freshPayload};
+ghost use Rattle.slots.specs.Payload.{pay, void, tombstone, rest_of, length_of, canonical_slot, hash_bits, matches, fresh_payload};
 ghost use Rattle.slots.specs.Kinds.{kind_of};
 
 // The extra bits of the widening regime, by generation.
@@ -97,14 +97,14 @@ pub fn tombstone_of(w: u32) -> u32
 // The l bits of the hash from bit k on.
 pub fn hash_bits(hash: u64, k: u32, l: u32) -> u32
     requires { (k ≤ 20) × (l ≤ 26) }
-    ensures { (result ≡ hashBits hash k l) × (result < 2 ^ l) }
+    ensures { (result ≡ hash_bits hash k l) × (result < 2 ^ l) }
 {
     ((hash >> k) % (1u64 << l)) as u32
 }
 
 pub fn canonical(hash: u64, k: u32) -> u32
     requires { k ≤ 20 }
-    ensures { (result ≡ canonicalSlot k hash) × (result < 2 ^ k) }
+    ensures { (result ≡ canonical_slot k hash) × (result < 2 ^ k) }
 {
     (hash & ((1u64 << k) - 1)) as u32
 }
@@ -128,7 +128,7 @@ pub fn matches(payload: u32, w: u32, k: u32, hash: u64) -> bool
 // The entry of a hash with l fingerprint bits.
 pub fn fresh(hash: u64, k: u32, w: u32, l: u32) -> u32
     requires { (l < w) × ((w ≤ 26) × (k ≤ 20)) }
-    ensures { result ≡ freshPayload w l k hash }
+    ensures { result ≡ fresh_payload w l k hash }
 {
     encode(w, l, hash_bits(hash, k, l))
 }

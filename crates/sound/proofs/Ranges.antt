@@ -13,7 +13,7 @@ use Rattle.slots.specs.Payload.{rest_of, length_of}
 use Rattle.slots.proofs.PayloadLaws.{rest-range}
 use Rattle.sound.specs.declared.Spans.{Spans}
 use Rattle.sound.specs.Spans.{allowed}
-use Rattle.rules.specs.Sound.{mainEntry, annexEntry}
+use Rattle.rules.specs.Sound.{main_entry, annex_entry}
 use Rattle.lists.proofs.Tests.{no_true, same_test}
 use Rattle.sound.proofs.Laps.{and-true, true-and}
 
@@ -52,15 +52,15 @@ module _ (w p d : ℕ) (h : p < 2 ^ w) where
       go (no g) = omega arith
 
 -- below b, or among the last two
-abbrev pub mainSpans : ℕ → ℕ → Spans
-mainSpans w k = record { from = 0; below = 2 ^ w - 2 ^ (6 - k); also = 2 ^ w - 2; end = 2 ^ w }
+abbrev pub main_spans : ℕ → ℕ → Spans
+main_spans w k = record { from = 0; below = 2 ^ w - 2 ^ (6 - k); also = 2 ^ w - 2; end = 2 ^ w }
 
-abbrev pub annexSpans : ℕ → Spans
-annexSpans l = record { from = 2 ^ 18 - 2 ^ (l + 1); below = 2 ^ 18 - 2 ^ l; also = 0; end = 0 }
+abbrev pub annex_spans : ℕ → Spans
+annex_spans l = record { from = 2 ^ 18 - 2 ^ (l + 1); below = 2 ^ 18 - 2 ^ l; also = 0; end = 0 }
 
 module _ (w k p : ℕ) where
-  main-in : allowed (mainSpans w k) p ≡ true → mainEntry w k p ≡ true
-  unfolding allowed mainEntry length_of
+  main-in : allowed (main_spans w k) p ≡ true → main_entry w k p ≡ true
+  unfolding allowed main_entry length_of
   main-in e = go (or-true (leb 0 p && ltb p (2 ^ w - 2 ^ (6 - k))) (leb (2 ^ w - 2) p && ltb p (2 ^ w)) e)
     where
       fin : p < 2 ^ w → (rest_of w p - 1 ≡ 0) ⊎ (6 ≤ k + (rest_of w p - 1)) → (ltb p (2 ^ w) && (eqb (rest_of w p - 1) 0 || leb 6 (k + (rest_of w p - 1)))) ≡ true
@@ -78,8 +78,8 @@ module _ (w k p : ℕ) where
           let l : rest_of w p ≤ 1 = shorter-if w p 1 b (omega (arith, leb-true (2 ^ w - 2) p t.0)) in
           fin b (inl (omega arith))
 
-  in-main : mainEntry w k p ≡ true → allowed (mainSpans w k) p ≡ true
-  unfolding allowed mainEntry length_of
+  in-main : main_entry w k p ≡ true → allowed (main_spans w k) p ≡ true
+  unfolding allowed main_entry length_of
   in-main e = go (or-true (eqb (rest_of w p - 1) 0) (leb 6 (k + (rest_of w p - 1))) s.1)
     where
       s : (ltb p (2 ^ w) ≡ true) × ((eqb (rest_of w p - 1) 0 || leb 6 (k + (rest_of w p - 1))) ≡ true)
@@ -109,12 +109,12 @@ module _ (w k p : ℕ) where
               or_left a b (true-and (leb 0 p) (ltb p (2 ^ w - 2 ^ (6 - k))) (le-leb 0 p (omega arith)) (lt-ltb p (2 ^ w - 2 ^ (6 - k)) (omega arith)))
           try (no l) = few (omega (arith, leb-true 6 (k + (rest_of w p - 1)) y))
 
-  pub main-spans : allowed (mainSpans w k) p ≡ mainEntry w k p
-  main-spans = same_test (allowed (mainSpans w k) p) (mainEntry w k p) main-in in-main
+  pub main-spans : allowed (main_spans w k) p ≡ main_entry w k p
+  main-spans = same_test (allowed (main_spans w k) p) (main_entry w k p) main-in in-main
 
 module _ (l p : ℕ) where
-  annex-in : allowed (annexSpans l) p ≡ true → annexEntry l p ≡ true
-  unfolding allowed annexEntry
+  annex-in : allowed (annex_spans l) p ≡ true → annex_entry l p ≡ true
+  unfolding allowed annex_entry
   annex-in e = go (or-true (leb (2 ^ 18 - 2 ^ (l + 1)) p && ltb p (2 ^ 18 - 2 ^ l)) (leb 0 p && ltb p 0) e)
     where
       go : ((leb (2 ^ 18 - 2 ^ (l + 1)) p && ltb p (2 ^ 18 - 2 ^ l)) ≡ true) ⊎ ((leb 0 p && ltb p 0) ≡ true) → (ltb p (2 ^ 18) && eqb (rest_of 18 p) (l + 1)) ≡ true
@@ -128,8 +128,8 @@ module _ (l p : ℕ) where
           true-and (ltb p (2 ^ 18)) (eqb (rest_of 18 p) (l + 1)) (lt-ltb p (2 ^ 18) h) (eq-eqb (rest_of 18 p) (l + 1) (omega arith))
       go (inr a) = absurd (omega (arith, ltb-true p 0 (and-true (leb 0 p) (ltb p 0) a).1))
 
-  in-annex : annexEntry l p ≡ true → allowed (annexSpans l) p ≡ true
-  unfolding allowed annexEntry
+  in-annex : annex_entry l p ≡ true → allowed (annex_spans l) p ≡ true
+  unfolding allowed annex_entry
   in-annex e =
       let s = and-true (ltb p (2 ^ 18)) (eqb (rest_of 18 p) (l + 1)) e in
       let h : p < 2 ^ 18 = ltb-true p (2 ^ 18) s.0 in
@@ -139,14 +139,14 @@ module _ (l p : ℕ) where
       or_left (leb (2 ^ 18 - 2 ^ (l + 1)) p && ltb p (2 ^ 18 - 2 ^ l)) (leb 0 p && ltb p 0)
       (true-and (leb (2 ^ 18 - 2 ^ (l + 1)) p) (ltb p (2 ^ 18 - 2 ^ l)) (le-leb (2 ^ 18 - 2 ^ (l + 1)) p (omega arith)) (lt-ltb p (2 ^ 18 - 2 ^ l) (omega arith)))
 
-  pub annex-spans : allowed (annexSpans l) p ≡ annexEntry l p
-  annex-spans = same_test (allowed (annexSpans l) p) (annexEntry l p) annex-in in-annex
+  pub annex-spans : allowed (annex_spans l) p ≡ annex_entry l p
+  annex-spans = same_test (allowed (annex_spans l) p) (annex_entry l p) annex-in in-annex
 
 -- as tests
-pub main-test : (w k : ℕ) → allowed (mainSpans w k) ≡ mainEntry w k
+pub main-test : (w k : ℕ) → allowed (main_spans w k) ≡ main_entry w k
 main-test w k = λ i p. main-spans w k p i
 
-pub annex-test : (l : ℕ) → allowed (annexSpans l) ≡ annexEntry l
+pub annex-test : (l : ℕ) → allowed (annex_spans l) ≡ annex_entry l
 annex-test l = λ i p. annex-spans l p i
 
 -- what the code makes
@@ -156,15 +156,15 @@ power_le a b x y ex ey h = omega (arith, pow_mono {i = a} {j = b} h)
 pub power-low : (w y : ℕ) → y ≡ 2 ^ w → 4 ≤ w → 2 ≤ y
 power-low w y ey h = omega (arith, pow_mono {i = 4} {j = w} h)
 
-pub main-short : (w k e d : ℕ) → e ≡ 2 ^ w → d ≡ 2 ^ (6 - k) → allowed (record { from = 0; below = e - d; also = e - 2; end = e }) ≡ mainEntry w k
+pub main-short : (w k e d : ℕ) → e ≡ 2 ^ w → d ≡ 2 ^ (6 - k) → allowed (record { from = 0; below = e - d; also = e - 2; end = e }) ≡ main_entry w k
 main-short w k e d a b = rw (a, b) (main-test w k)
 
-pub main-long : (w k e : ℕ) → e ≡ 2 ^ w → 6 ≤ k → allowed (record { from = 0; below = e - 1; also = e - 2; end = e }) ≡ mainEntry w k
+pub main-long : (w k e : ℕ) → e ≡ 2 ^ w → 6 ≤ k → allowed (record { from = 0; below = e - 1; also = e - 2; end = e }) ≡ main_entry w k
 main-long w k e a h =
     let z : 6 - k ≡ 0 = omega arith in
     let o : 1 ≡ 2 ^ (6 - k) = sym (ap (λ (x : ℕ). 2 ^ x) z ∙ pow-zero 2) in
     main-short w k e 1 a o
 
 pub annex-made : (l e g d : ℕ) → e ≡ 2 ^ 18 → g ≡ 2 ^ (l + 1) → d ≡ 2 ^ l
-    → allowed (record { from = e - g; below = e - d; also = 0; end = 0 }) ≡ annexEntry l
+    → allowed (record { from = e - g; below = e - d; also = 0; end = 0 }) ≡ annex_entry l
 annex-made l e g d a b c = rw (a, b, c) (annex-test l)

@@ -24,7 +24,7 @@ use Rattle.layout.proofs.Bridge.{get-wrap}
 use Rattle.layout.proofs.Calls.{others, turn-own}
 use Rattle.layout.proofs.Puts.{layout-length, run_room, run-bit}
 use Rattle.sound.proofs.Laps.{queue, joined, joined-queue, occupied-le}
-use Rattle.sound.specs.Reading.{later, readAt, Read}
+use Rattle.sound.specs.Reading.{later, read_at, Read}
 
 -- ---- the later entries
 
@@ -54,20 +54,20 @@ pub record Going (words : List ℕ) (c k t v j a b : ℕ) : Type 0 where
   pub ahead : k ≤ j
   pub few : a ≤ j
   pub few-voids : b ≤ j
-  pub len : length (readAt words c k) + k ≡ j + length (later (turn c words) j)
-  pub tombstones : count t (readAt words c k) ≡ a + count t (later (turn c words) j)
-  pub voids : count v (readAt words c k) ≡ b + count v (later (turn c words) j)
+  pub len : length (read_at words c k) + k ≡ j + length (later (turn c words) j)
+  pub tombstones : count t (read_at words c k) ≡ a + count t (later (turn c words) j)
+  pub voids : count v (read_at words c k) ≡ b + count v (later (turn c words) j)
 
 pub read_none : (words : List ℕ) (c k t v : ℕ) → get_or words c 0 % 2 ≡ 0 → Read words c k t v 0 0 0
-unfolding readAt count
+unfolding read_at count
 read_none words c k t v z =
-    let e : readAt words c k ≡ [] = ap (λ (x : ℕ). stop' x (get_or (turn c words) k 0 / 8 ∷ later (turn c words) (k + 1))) z in
+    let e : read_at words c k ≡ [] = ap (λ (x : ℕ). stop' x (get_or (turn c words) k 0 / 8 ∷ later (turn c words) (k + 1))) z in
     record { size = sym (ap length e); fits = omega arith; tombstones = sym (ap (count t) e); voids = sym (ap (count v) e) }
 
 module _ (words : List ℕ) (c k t v i a b : ℕ) (hc : c < length words) (hk : k < length words) (nz : get_or words c 0 % 2 ≡ 0 → ⊥) (ei : i ≡ wrap (length words) c k)
     (ea : (a ≡ is t (get_or words i 0 / 8)) × (a ≤ 1)) (eb : (b ≡ is v (get_or words i 0 / 8)) × (b ≤ 1)) where
-  first : readAt words c k ≡ get_or words i 0 / 8 ∷ later (turn c words) (k + 1)
-  unfolding readAt
+  first : read_at words c k ≡ get_or words i 0 / 8 ∷ later (turn c words) (k + 1)
+  unfolding read_at
   first =
       go (get_or words c 0 % 2) nz
       ∙ ap (λ (x : ℕ). x / 8 ∷ later (turn c words) (k + 1)) (sym (ap (λ (j : ℕ). get_or words j 0) ei ∙ get-wrap words c k (omega arith) hk 0))
@@ -135,10 +135,10 @@ going_end words c k t v j a b h h' g =
 
 -- the code's comparison
 pub agree : (words : List ℕ) (c k w t v len a b evens want m m' named : ℕ) → t ≡ tombstone w → v ≡ void w → Read words c k t v len a b → m' ≡ m → want ≡ m' - named
-    → (eqb a evens && eqb b want) ≡ (eqb (count (tombstone w) (readAt words c k)) evens && eqb (count (void w) (readAt words c k)) (m - named))
+    → (eqb a evens && eqb b want) ≡ (eqb (count (tombstone w) (read_at words c k)) evens && eqb (count (void w) (read_at words c k)) (m - named))
 agree words c k w t v len a b evens want m m' named et ev r f e = rw (r.tombstones, r.voids, e, f, et, ev)
 
-pub onwards : (words : List ℕ) (c k t v len a b z : ℕ) → Read words c k t v len a b → z ≡ k + len - 1 → z ≡ k + length (readAt words c k) - 1
+pub onwards : (words : List ℕ) (c k t v len a b z : ℕ) → Read words c k t v len a b → z ≡ k + len - 1 → z ≡ k + length (read_at words c k) - 1
 onwards words c k t v len a b z r e = e ∙ ap (λ (x : ℕ). k + x - 1) r.size
 
 -- ---- on a layout the code reads the run
@@ -204,8 +204,8 @@ module _ (runs : Runs) (c : ℕ) (hc : c < length runs) (small : total runs < le
       turn-layout c runs (omega arith) small ∙ ap layout o ∙ layout-from r (others runs c) h
       ∙ ap (λ (q : List Entry). emit q r ∷ scan (others runs c) (rest q r)) (sym (pend-others r (others runs c) h) ∙ ap pend (sym o))
 
-  pub run-read : (k : ℕ) → k ≡ carry runs c → readAt (layout runs) c k ≡ get_or runs c []
-  unfolding readAt
+  pub run-read : (k : ℕ) → k ≡ carry runs c → read_at (layout runs) c k ≡ get_or runs c []
+  unfolding read_at
   run-read k ek = ap (λ (b : ℕ). stop' b (get_or l k 0 / 8 ∷ later l (k + 1))) (run-bit runs c hc small) ∙ go (get_or runs c []) refl
     where
       l : List ℕ

@@ -8,7 +8,7 @@ use lib.Dec.{leb, ltb, eqb}
 use lib.ListN.{length, drop, get_or}
 use lib.Seq.{drop-cons}
 use Rattle.sound.specs.declared.Lap.{Lap}
-use Rattle.sound.specs.Lap.{noEntry, anEntry, empty, home, moved, next, never, arm, step, fits}
+use Rattle.sound.specs.Lap.{no_entry, an_entry, empty, home, moved, next, never, arm, step, fits}
 use Rattle.sound.proofs.Laps.{is_home, is-moved, is-next}
 use Rattle.layout.specs.Decode.{turn}
 use Rattle.layout.specs.Moves.{wrap}
@@ -16,11 +16,11 @@ use Rattle.layout.proofs.Bridge.{get-wrap}
 use Rattle.layout.proofs.Same.{turn-length}
 
 module _ (f : ℕ → Bool) (s : Lap) (w : ℕ) (r : Lap) where
-  pub step-empty : w % 8 ≡ 0 → r ≡ noEntry s (eqb w 0 && eqb s.begun s.opened) → r ≡ step f s w
+  pub step-empty : w % 8 ≡ 0 → r ≡ no_entry s (eqb w 0 && eqb s.begun s.opened) → r ≡ step f s w
   unfolding step
   step-empty a e = rw a e
 
-  pub step-never : (w % 8 ≡ 0 → ⊥) → (w % 8 ≡ 1 → ⊥) → w % 8 < 4 → r ≡ noEntry s false → r ≡ step f s w
+  pub step-never : (w % 8 ≡ 0 → ⊥) → (w % 8 ≡ 1 → ⊥) → w % 8 < 4 → r ≡ no_entry s false → r ≡ step f s w
   unfolding step
   step-never a b l e = go (w % 8) a b l
     where
@@ -32,13 +32,13 @@ module _ (f : ℕ → Bool) (s : Lap) (w : ℕ) (r : Lap) where
       go (suc (suc (suc (suc k)))) x y z = absurd (omega arith)
 
   module _ (fine : Bool) (e : fine ≡ f (w / 8)) where
-    pub step-home : w % 8 ≡ 1 → r ≡ anEntry s (w / 8) (eqb s.begun s.opened && fine) (s.opened + 1) (s.begun + 1) → r ≡ step f s w
+    pub step-home : w % 8 ≡ 1 → r ≡ an_entry s (w / 8) (eqb s.begun s.opened && fine) (s.opened + 1) (s.begun + 1) → r ≡ step f s w
     step-home a er = er ∙ rw e (sym (is_home f s w (w / 8) 0 (omega arith)))
 
-    pub step-moved : 4 ≤ w % 8 → w % 8 < 6 → r ≡ anEntry s (w / 8) (ltb s.begun s.opened && fine) (s.opened + w % 2) (s.begun + 1) → r ≡ step f s w
+    pub step-moved : 4 ≤ w % 8 → w % 8 < 6 → r ≡ an_entry s (w / 8) (ltb s.begun s.opened && fine) (s.opened + w % 2) (s.begun + 1) → r ≡ step f s w
     step-moved a b er = er ∙ rw e (sym (is-moved f s w (w / 8) (w % 2) (omega arith) (omega arith)))
 
-    pub step-next : 6 ≤ w % 8 → r ≡ anEntry s (w / 8) (s.inside && (leb s.last (w / 8) && fine)) (s.opened + w % 2) s.begun → r ≡ step f s w
+    pub step-next : 6 ≤ w % 8 → r ≡ an_entry s (w / 8) (s.inside && (leb s.last (w / 8) && fine)) (s.opened + w % 2) s.begun → r ≡ step f s w
     step-next a er = er ∙ rw e (sym (is-next f s w (w / 8) (w % 2) (omega arith) (omega arith)))
 
 -- the three counts rise by at most one

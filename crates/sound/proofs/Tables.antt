@@ -8,7 +8,7 @@ use borrow.Author.Tests.{eqb-true, leb-true, eq-eqb, le-leb}
 use lib.Dec.{eqb, leb}
 use lib.ListN.{length, take, drop, get_or}
 use Rattle.lists.specs.Lists.{every, same}
-use Rattle.lists.specs.Runs.{Runs, rising, risesFrom, total}
+use Rattle.lists.specs.Runs.{Runs, rising, rises_from, total}
 use Rattle.lists.proofs.Tests.{no_true, test-true, true-test, same_test, same→eq, same_refl}
 use Rattle.lists.proofs.Alls.{All}
 use Rattle.layout.specs.Machine.{Entry, emit, scan, left, pend, layout}
@@ -17,25 +17,25 @@ use Rattle.layout.proofs.Round.{marks, turn-layout, decode-layout}
 use Rattle.layout.proofs.Same.{turn-length, turn_low, total-turn, empty-slot}
 use Rattle.layout.proofs.Bridge.{turn-back}
 use Rattle.layout.proofs.Puts.{layout-length}
-use Rattle.rules.specs.Sound.{laid, tableRight}
+use Rattle.rules.specs.Sound.{laid, table_right}
 use Rattle.sound.specs.Lap.{start, fits}
 use Rattle.sound.specs.Reading.{Laid}
 use Rattle.sound.proofs.Laps.{Rises, Run, After, queue, and-true, true-and, all_append, sound, complete}
 
 -- ---- tests and what they say
 
-rises-tests : (f : ℕ → Bool) (x : ℕ) (xs : List ℕ) → Rises f x xs → (risesFrom x xs ≡ true) × (every f xs ≡ true)
-unfolding Rises risesFrom every
+rises-tests : (f : ℕ → Bool) (x : ℕ) (xs : List ℕ) → Rises f x xs → (rises_from x xs ≡ true) × (every f xs ≡ true)
+unfolding Rises rises_from every
 rises-tests f x [] h = (refl, refl)
 rises-tests f x (y ∷ ys) h =
     let t = rises-tests f y ys h.2 in
-    (true-and (leb x y) (risesFrom y ys) (le-leb x y h.0) t.0, true-and (f y) (every f ys) h.1 t.1)
+    (true-and (leb x y) (rises_from y ys) (le-leb x y h.0) t.0, true-and (f y) (every f ys) h.1 t.1)
 
-tests-rise : (f : ℕ → Bool) (x : ℕ) (xs : List ℕ) → risesFrom x xs ≡ true → every f xs ≡ true → Rises f x xs
-unfolding Rises risesFrom every
+tests-rise : (f : ℕ → Bool) (x : ℕ) (xs : List ℕ) → rises_from x xs ≡ true → every f xs ≡ true → Rises f x xs
+unfolding Rises rises_from every
 tests-rise f x [] a b = tt
 tests-rise f x (y ∷ ys) a b =
-    let s = and-true (leb x y) (risesFrom y ys) a in
+    let s = and-true (leb x y) (rises_from y ys) a in
     let t = and-true (f y) (every f ys) b in
     (leb-true x y s.0, t.0, tests-rise f y ys s.1 t.1)
 
@@ -93,8 +93,8 @@ pub record Table (f : ℕ → Bool) (n : ℕ) (words : List ℕ) : Type 0 where
   pub is : words ≡ layout runs
 
 module _ (f : ℕ → Bool) (n : ℕ) (words : List ℕ) where
-  pub table-right : n < length words → Table f n words → tableRight f n words ≡ true
-  unfolding tableRight laid
+  pub table-right : n < length words → Table f n words → table_right f n words ≡ true
+  unfolding table_right laid
   table-right h t =
       let runs = t.runs in
       let small : total runs < length runs = omega (arith, t.count, ap length t.is, layout-length runs) in
@@ -106,8 +106,8 @@ module _ (f : ℕ → Bool) (n : ℕ) (words : List ℕ) where
       (true-and (every (every f) (decode words)) (eqb (total (decode words)) n) (ap (every (every f)) d ∙ g.1)
       (eq-eqb (total (decode words)) n (ap total d ∙ t.count)))
 
-  pub right-table : tableRight f n words ≡ true → Table f n words
-  unfolding tableRight laid
+  pub right-table : table_right f n words ≡ true → Table f n words
+  unfolding table_right laid
   right-table e =
       let a = and-true (every rising (decode words) && same words (layout (decode words))) (every (every f) (decode words) && eqb (total (decode words)) n) e in
       let s = and-true (every rising (decode words)) (same words (layout (decode words))) a.0 in
@@ -120,7 +120,7 @@ module _ (f : ℕ → Bool) (n : ℕ) (words : List ℕ) where
       }
 
 -- a right table is laid
-pub right-laid : (f : ℕ → Bool) (n : ℕ) (words : List ℕ) → n < length words → tableRight f n words ≡ true → Laid words
+pub right-laid : (f : ℕ → Bool) (n : ℕ) (words : List ℕ) → n < length words → table_right f n words ≡ true → Laid words
 right-laid f n words h e =
     let t = right-table f n words e in
     let small : total t.runs < length t.runs = omega (arith, t.count, ap length t.is, layout-length t.runs) in
@@ -175,17 +175,17 @@ module _ (f : ℕ → Bool) (n : ℕ) (words : List ℕ) (z : ℕ) (hz : z < len
       ∙ complete f n ts [] [] start refl tt (omega arith) (all-turn (Run f) z runs t.good) p (omega (arith, total-turn z runs, t.count))
 
   -- the law of the code that has found an empty slot
-  pub found : (r : Bool) → (z < length words → get_or words z 0 ≡ 0) → r ≡ fits f n start (turn z words) → r ≡ tableRight f n words
+  pub found : (r : Bool) → (z < length words → get_or words z 0 ≡ 0) → r ≡ fits f n start (turn z words) → r ≡ table_right f n words
   found r e er =
       er
-      ∙ same_test (fits f n start (turn z words)) (tableRight f n words)
+      ∙ same_test (fits f n start (turn z words)) (table_right f n words)
       (λ h. table-right f n words hn (lap-table h)) (λ h. table-lap (e hz) (right-table f n words h))
 
 -- and of that which has found none
 pub not_found : (f : ℕ → Bool) (n : ℕ) (words : List ℕ) (z : ℕ) → n < length words → length words ≤ z
-    → ((k : ℕ) → k < z → get_or words k 0 ≡ 0 → ⊥) → false ≡ tableRight f n words
+    → ((k : ℕ) → k < z → get_or words k 0 ≡ 0 → ⊥) → false ≡ table_right f n words
 not_found f n words z hn hz h =
-    same_test false (tableRight f n words) (λ e. absurd (no_true e)) (λ e. absurd (none (right-table f n words e)))
+    same_test false (table_right f n words) (λ e. absurd (no_true e)) (λ e. absurd (none (right-table f n words e)))
   where
     none : Table f n words → ⊥
     none t =

@@ -8,29 +8,29 @@ start = record { good = true; opened = 0; begun = 0; inside = false; last = 0; c
 
 -- opened: occupied addresses passed. begun: runs begun. inside: the slot before holds an entry, with payload last. count: entries passed
 -- a slot with no entry, and one with payload p
-abbrev pub noEntry : Lap → Bool → Lap
-noEntry s good = record { good = good; opened = s.opened; begun = s.begun; inside = false; last = 0; count = s.count }
+abbrev pub no_entry : Lap → Bool → Lap
+no_entry s good = record { good = good; opened = s.opened; begun = s.begun; inside = false; last = 0; count = s.count }
 
-abbrev pub anEntry : Lap → ℕ → Bool → ℕ → ℕ → Lap
-anEntry s p good opened begun = record { good = good; opened = opened; begun = begun; inside = true; last = p; count = s.count + 1 }
+abbrev pub an_entry : Lap → ℕ → Bool → ℕ → ℕ → Lap
+an_entry s p good opened begun = record { good = good; opened = opened; begun = begun; inside = true; last = p; count = s.count + 1 }
 
 abbrev pub empty : Lap → ℕ → Lap
-empty s w = noEntry s (eqb w 0 && eqb s.begun s.opened)
+empty s w = no_entry s (eqb w 0 && eqb s.begun s.opened)
 
 -- the run start at home
 abbrev pub home : (ℕ → Bool) → Lap → ℕ → Lap
-home f s p = anEntry s p (eqb s.begun s.opened && f p) (s.opened + 1) (s.begun + 1)
+home f s p = an_entry s p (eqb s.begun s.opened && f p) (s.opened + 1) (s.begun + 1)
 
 -- a run start moved; o is the occupied bit
 abbrev pub moved : (ℕ → Bool) → Lap → ℕ → ℕ → Lap
-moved f s p o = anEntry s p (ltb s.begun s.opened && f p) (s.opened + o) (s.begun + 1)
+moved f s p o = an_entry s p (ltb s.begun s.opened && f p) (s.opened + o) (s.begun + 1)
 
 -- a continuation
 abbrev pub next : (ℕ → Bool) → Lap → ℕ → ℕ → Lap
-next f s p o = anEntry s p (s.inside && (leb s.last p && f p)) (s.opened + o) s.begun
+next f s p o = an_entry s p (s.inside && (leb s.last p && f p)) (s.opened + o) s.begun
 
 abbrev pub never : Lap → Lap
-never s = noEntry s false
+never s = no_entry s false
 
 -- by the three low bits
 abbrev pub arm : ℕ → Lap → Lap → Lap → Lap → Lap → Lap

@@ -14,12 +14,12 @@ unfoldable pub later : List ℕ → ℕ → List ℕ
 later l j = mores (map entry (drop j l))
 
 -- the run of address c, where k entries wait on arrival there
-unfoldable pub readAt : List ℕ → ℕ → ℕ → List ℕ
-readAt words c k = stop' (get_or words c 0 % 2) (get_or (turn c words) k 0 / 8 ∷ later (turn c words) (k + 1))
+unfoldable pub read_at : List ℕ → ℕ → ℕ → List ℕ
+read_at words c k = stop' (get_or words c 0 % 2) (get_or (turn c words) k 0 / 8 ∷ later (turn c words) (k + 1))
 
 -- how long that run is, and how often t and v are in it
 pub record Read (words : List ℕ) (c k t v len a b : ℕ) : Type 0 where
-  pub size : len ≡ length (readAt words c k)
+  pub size : len ≡ length (read_at words c k)
   pub fits : len ≤ length words
-  pub tombstones : a ≡ count t (readAt words c k)
-  pub voids : b ≡ count v (readAt words c k)
+  pub tombstones : a ≡ count t (read_at words c k)
+  pub voids : b ≡ count v (read_at words c k)

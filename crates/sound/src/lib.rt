@@ -2,9 +2,9 @@
 ghost use Rattle.std.specs.Prelude.{◌≡◌, ℕ, ◌/◌, ◌≤◌, ◌<◌, eqb, length, get_or};
 ghost use Rattle.lists.specs.Lists.{bit};
 ghost use Rattle.layout.specs.Decode.{turn};
-ghost use Rattle.rules.specs.Sound.{tableRight, mainEntry, annexEntry};
+ghost use Rattle.rules.specs.Sound.{table_right, main_entry, annex_entry};
 ghost use Rattle.sound.specs.Spans.{allowed};
-ghost use Rattle.sound.specs.Lap.{noEntry, anEntry, step, fits, start};
+ghost use Rattle.sound.specs.Lap.{no_entry, an_entry, step, fits, start};
 ghost use Rattle.sound.specs.Reading.{Read};
 
 // The payloads that a table may hold: those from `from` below `below`, and those from `also` below `end`.
@@ -19,7 +19,7 @@ pub struct Spans {
 // What a main table of 2^k slots may hold at width w.
 pub fn main_spans(k: u32, w: u32) -> Spans
     requires { (3 ≤ k) × (4 ≤ w) × (w ≤ 26) }
-    ensures { allowed result ≡ mainEntry w k }
+    ensures { allowed result ≡ main_entry w k }
 {
     let end = slots::pow2(w);
     if k < 6 {
@@ -42,7 +42,7 @@ pub fn main_spans(k: u32, w: u32) -> Spans
 // What an annex table of fingerprint length l may hold.
 pub fn annex_spans(l: u32) -> Spans
     requires { (1 ≤ l) × (l ≤ 17) }
-    ensures { allowed result ≡ annexEntry l }
+    ensures { allowed result ≡ annex_entry l }
 {
     let end = slots::pow2(18);
     let long = slots::pow2(l + 1);
@@ -75,7 +75,7 @@ pub struct Lap {
 
 // The lap after a slot with no entry.
 fn no_entry(s: Lap, good: bool) -> Lap
-    ensures { result ≡ noEntry s good }
+    ensures { result ≡ no_entry s good }
 {
     Lap {
         good: good,
@@ -90,7 +90,7 @@ fn no_entry(s: Lap, good: bool) -> Lap
 // The lap after a slot with payload p.
 fn an_entry(s: Lap, p: u32, good: bool, opened: u32, begun: u32) -> Lap
     requires { s.count ≤ 1048576 }
-    ensures { result ≡ anEntry s p good opened begun }
+    ensures { result ≡ an_entry s p good opened begun }
 {
     Lap {
         good: good,
@@ -179,7 +179,7 @@ fn lap_from(words: &[u32], z: usize, count: u32, t: Spans) -> bool
 // Whether the words are the layout of `count` entries of what they decode to, all allowed.
 pub fn is_table(words: &[u32], count: u32, t: Spans) -> bool
     requires { (count < length words.now) × (1 < length words.now) × (length words.now ≤ 1048576) }
-    ensures { result ≡ tableRight (allowed t) count words.now }
+    ensures { result ≡ table_right (allowed t) count words.now }
 {
     let z = first_empty(words);
     if z < words.len() {

@@ -10,7 +10,7 @@ use Rattle.layout.specs.Decode.{decode, place_of}
 use Rattle.layout.specs.Document.{carry}
 use Rattle.layout.proofs.Same.{place-of, carry-next}
 use Rattle.layout.proofs.Puts.{layout-length, run_room}
-use Rattle.sound.specs.Reading.{Laid, readAt}
+use Rattle.sound.specs.Reading.{Laid, read_at}
 use Rattle.sound.proofs.Readings.{run-read}
 
 module _ (words : List ℕ) (p : Laid words) where
@@ -31,11 +31,11 @@ module _ (words : List ℕ) (p : Laid words) where
       pub carry-small : k < length words
       carry-small = omega (arith, p.small, run_room (decode words) c in-runs small)
 
-      pub read_is : readAt words c k ≡ get_or (decode words) c []
-      read_is = ap (λ (l : List ℕ). readAt l c k) p.is ∙ run-read (decode words) c in-runs small k ek
+      pub read_is : read_at words c k ≡ get_or (decode words) c []
+      read_is = ap (λ (l : List ℕ). read_at l c k) p.is ∙ run-read (decode words) c in-runs small k ek
 
       -- with the run read here, the carry of the next slot, in a circle
-      pub carry-on : (k' : ℕ) → k' ≡ k + length (readAt words c k) - 1 → k' ≡ carry (decode words) (suc c % length words)
+      pub carry-on : (k' : ℕ) → k' ≡ k + length (read_at words c k) - 1 → k' ≡ carry (decode words) (suc c % length words)
       carry-on k' e =
           let runs = decode words in
           let m : c % length runs ≡ c = mod-eq_of_lt in-runs in

@@ -15,56 +15,56 @@ use Rattle.lists.proofs.Alls.{All}
 use Rattle.slots.specs.Numbers.{limit}
 use Rattle.slots.proofs.NumberLaws.{limit-lt}
 use Rattle.directory.specs.declared.Place.{Place}
-use Rattle.directory.specs.Places.{noPlace, taken, placesInUse, placesNotInUse, placesRight, zeroPlace, directoryRight, wordsTaken}
+use Rattle.directory.specs.Places.{no_place, taken, places_in_use, places_not_in_use, places_right, zero_place, directory_right, words_taken}
 use Rattle.directory.proofs.Front.{front-yes, front-no}
 use Rattle.directory.proofs.Laws.{RightPlace, right-used, right-rest, right-first, right-next, right-places, words-cons}
 
 -- lengths up to k are lengths up to 20
-more-places : (k last : ℕ) (ps : List Place) → k ≤ 20 → T (placesRight k last ps) → T (placesRight 20 last ps)
-unfolding placesRight
+more-places : (k last : ℕ) (ps : List Place) → k ≤ 20 → T (places_right k last ps) → T (places_right 20 last ps)
+unfolding places_right
 more-places k last [] h t = tt
 more-places k last (p ∷ ps) h t =
     let r = right-first k last p ps t in
-    let few = leb p.count (limit p.s) && placesRight 20 p.b ps in
+    let few = leb p.count (limit p.s) && places_right 20 p.b ps in
     and_both (within (last + 1) 20 p.b) (within 3 (p.b - 1) p.s && few)
     (and_both (leb (last + 1) p.b) (leb p.b 20) (le→leb (last + 1) p.b (omega (arith, r.b-low))) (le→leb p.b 20 (omega (arith, r.b-high))))
     (and_both (within 3 (p.b - 1) p.s) few
     (and_both (leb 3 p.s) (leb p.s (p.b - 1)) (le→leb 3 p.s r.s-low) (le→leb p.s (p.b - 1) (omega (arith, r.s-high))))
-    (and_both (leb p.count (limit p.s)) (placesRight 20 p.b ps) (le→leb p.count (limit p.s) r.count-high)
+    (and_both (leb p.count (limit p.s)) (places_right 20 p.b ps) (le→leb p.count (limit p.s) r.count-high)
     (more-places k p.b ps h (right-next k last p ps t))))
 
-pub directory-20 : (k : ℕ) (places : List Place) → k ≤ 20 → T (directoryRight k places) → T (directoryRight 20 places)
-unfolding directoryRight
+pub directory-20 : (k : ℕ) (places : List Place) → k ≤ 20 → T (directory_right k places) → T (directory_right 20 places)
+unfolding directory_right
 directory-20 k places h t =
-    and_both (placesRight 20 5 (placesInUse places)) (every zeroPlace (placesNotInUse places)) (more-places k 5 (placesInUse places) h (right-used k places t))
+    and_both (places_right 20 5 (places_in_use places)) (every zero_place (places_not_in_use places)) (more-places k 5 (places_in_use places) h (right-used k places t))
     (right-rest k places t)
 
 -- ---- after i places, which take `at` words
 
 pub record Walk (places : List Place) (annex : List ℕ) (i at : ℕ) : Type 0 where
-  pub limits : All (RightPlace 20 5) (placesInUse (drop i places))
-  pub room : at + wordsTaken (placesInUse (drop i places)) ≤ length annex
+  pub limits : All (RightPlace 20 5) (places_in_use (drop i places))
+  pub room : at + words_taken (places_in_use (drop i places)) ≤ length annex
 
-pub walk_start : (places : List Place) (annex : List ℕ) → T (directoryRight 20 places) → wordsTaken (placesInUse places) ≤ length annex → Walk places annex 0 0
+pub walk_start : (places : List Place) (annex : List ℕ) → T (directory_right 20 places) → words_taken (places_in_use places) ≤ length annex → Walk places annex 0 0
 walk_start places annex t h = record { limits = right-places 20 places t; room = omega arith }
 
-pub none_left : (places : List Place) (i : ℕ) → length places ≤ i → placesInUse (drop i places) ≡ []
+pub none_left : (places : List Place) (i : ℕ) → length places ≤ i → places_in_use (drop i places) ≡ []
 unfolding front
-none_left places i h = ap placesInUse (lib.ListN.drop_of_length-le places {i = i} h)
+none_left places i h = ap places_in_use (lib.ListN.drop_of_length-le places {i = i} h)
 
-module _ (places : List Place) (i : ℕ) (p : Place) (hi : i < length places) (ep : p ≡ get_or places i noPlace) where
+module _ (places : List Place) (i : ℕ) (p : Place) (hi : i < length places) (ep : p ≡ get_or places i no_place) where
   cut : drop i places ≡ p ∷ drop (i + 1) places
-  cut = rw (add-one i) (drop-cons places i noPlace hi ∙ ap (λ (x : Place). x ∷ drop (suc i) places) (sym ep))
+  cut = rw (add-one i) (drop-cons places i no_place hi ∙ ap (λ (x : Place). x ∷ drop (suc i) places) (sym ep))
 
-  pub not_taken : p.b ≡ 0 → placesInUse (drop i places) ≡ []
-  not_taken z = ap placesInUse cut ∙ front-no taken p (drop (i + 1) places) (ap not (eq-eqb p.b 0 z))
+  pub not_taken : p.b ≡ 0 → places_in_use (drop i places) ≡ []
+  not_taken z = ap places_in_use cut ∙ front-no taken p (drop (i + 1) places) (ap not (eq-eqb p.b 0 z))
 
   module _ (nz : p.b ≡ 0 → ⊥) where
-    pub next-taken : placesInUse (drop i places) ≡ p ∷ placesInUse (drop (i + 1) places)
-    next-taken = ap placesInUse cut ∙ front-yes taken p (drop (i + 1) places) (ap not (ne_eqb p.b 0 nz))
+    pub next-taken : places_in_use (drop i places) ≡ p ∷ places_in_use (drop (i + 1) places)
+    next-taken = ap places_in_use cut ∙ front-yes taken p (drop (i + 1) places) (ap not (ne_eqb p.b 0 nz))
 
     module _ (annex : List ℕ) (at : ℕ) (s : Walk places annex i at) where
-      both : RightPlace 20 5 p × All (RightPlace 20 5) (placesInUse (drop (i + 1) places))
+      both : RightPlace 20 5 p × All (RightPlace 20 5) (places_in_use (drop (i + 1) places))
       both = subst (All (RightPlace 20 5)) next-taken s.limits
 
       pub walk-least : 3 ≤ p.s
@@ -79,8 +79,8 @@ module _ (places : List Place) (i : ℕ) (p : Place) (hi : i < length places) (e
       pub walk-power : p.s ≤ 20
       walk-power = omega (arith, walk-below, walk-most)
 
-      words_left : at + (2 ^ p.s + wordsTaken (placesInUse (drop (i + 1) places))) ≤ length annex
-      words_left = omega (arith, s.room, ap wordsTaken next-taken, words-cons p (placesInUse (drop (i + 1) places)))
+      words_left : at + (2 ^ p.s + words_taken (places_in_use (drop (i + 1) places))) ≤ length annex
+      words_left = omega (arith, s.room, ap words_taken next-taken, words-cons p (places_in_use (drop (i + 1) places)))
 
       module _ (size : ℕ) (es : size ≡ 2 ^ p.s) where
         pub walk-room : at + size ≤ length annex

@@ -15,13 +15,13 @@ use Rattle.lists.proofs.Tests.{and_left, and_right, test-true}
 use Rattle.layout.specs.Decode.{decode}
 use Rattle.layout.proofs.Puts.{run_room}
 use Rattle.directory.specs.declared.Place.{Place}
-use Rattle.directory.specs.Places.{noPlace, placesInUse}
-use Rattle.rules.specs.Tables.{hashEntry, matching, mothersOf, tables}
-use Rattle.rules.specs.Sound.{tableRight, annexEntry, annexRight}
+use Rattle.directory.specs.Places.{no_place, places_in_use}
+use Rattle.rules.specs.Tables.{hash_entry, matching, mothers_of, tables}
+use Rattle.rules.specs.Sound.{table_right, annex_entry, annex_right}
 use Rattle.annex.specs.Stored.{table_of}
 use Rattle.sound.specs.Reading.{Laid}
 use Rattle.sound.proofs.Tables.{right-laid}
-use Rattle.tallies.specs.Tally.{blockSize, AtMost, Raised, Stored}
+use Rattle.tallies.specs.Tally.{block_size, AtMost, Raised, Stored}
 use Rattle.tallies.proofs.InUse.{Walk, none_left, not_taken, next-taken, part-is, rest-is, walk-below, walk-most, walk-size, walk-few}
 use Rattle.tallies.proofs.Carries.{same_size, small}
 
@@ -56,7 +56,7 @@ few-match c b s part laid n h =
     let l : i < length runs = omega (arith, mod-lt c (pow_pos s), same_size part laid) in
     omega (
       arith,
-      count-le (hashEntry b s (c % 2 ^ b)) (get_or runs i []),
+      count-le (hash_entry b s (c % 2 ^ b)) (get_or runs i []),
       run_room runs i l (small part laid),
       laid.small,
     )
@@ -64,50 +64,50 @@ few-match c b s part laid n h =
 -- ---- one table after the other: after i places, with `total` counted
 
 pub record Sum (places : List Place) (annex : List ℕ) (c i at total : ℕ) : Type 0 where
-  pub left : mothersOf c (tables (placesInUse places) annex) ≡ total + mothersOf c (tables (placesInUse (drop i places)) (drop at annex))
+  pub left : mothers_of c (tables (places_in_use places) annex) ≡ total + mothers_of c (tables (places_in_use (drop i places)) (drop at annex))
   pub few : total ≤ i * 1048576
 
 pub sum-start : (places : List Place) (annex : List ℕ) (c : ℕ) → Sum places annex c 0 0 0
 sum-start places annex c = record { left = omega arith; few = omega arith }
 
 module _ (places : List Place) (annex : List ℕ) (c i at total : ℕ) (s : Sum places annex c i at total) where
-  sum_done : placesInUse (drop i places) ≡ [] → total ≡ mothersOf c (tables (placesInUse places) annex)
-  unfolding mothersOf tables sum
+  sum_done : places_in_use (drop i places) ≡ [] → total ≡ mothers_of c (tables (places_in_use places) annex)
+  unfolding mothers_of tables sum
   sum_done e =
-      let z : mothersOf c (tables (placesInUse (drop i places)) (drop at annex)) ≡ 0 = ap (λ (l : List Place). mothersOf c (tables l (drop at annex))) e in
+      let z : mothers_of c (tables (places_in_use (drop i places)) (drop at annex)) ≡ 0 = ap (λ (l : List Place). mothers_of c (tables l (drop at annex))) e in
       omega (arith, s.left)
 
-  pub sum-end : length places ≤ i → total ≡ mothersOf c (tables (placesInUse places) annex)
+  pub sum-end : length places ≤ i → total ≡ mothers_of c (tables (places_in_use places) annex)
   sum-end h = sum_done (none_left places i h)
 
-  module _ (p : Place) (hi : i < length places) (ep : p ≡ get_or places i noPlace) where
-    pub sum-stop : p.b ≡ 0 → total ≡ mothersOf c (tables (placesInUse places) annex)
+  module _ (p : Place) (hi : i < length places) (ep : p ≡ get_or places i no_place) where
+    pub sum-stop : p.b ≡ 0 → total ≡ mothers_of c (tables (places_in_use places) annex)
     sum-stop z = sum_done (not_taken places i p hi ep z)
 
     pub sum-on : (p.b ≡ 0 → ⊥) → Walk places annex i at → (size x : ℕ) → size ≡ 2 ^ p.s
         → x ≡ matching c (table_of p.b p.s (take (at + size - at) (drop at annex))) → x ≤ 1048576
         → Sum places annex c (i + 1) (at + size) (total + x)
-    unfolding mothersOf tables sum
+    unfolding mothers_of tables sum
     sum-on nz w size x es ex l =
-        let ps = placesInUse (drop (i + 1) places) in
-        let rest = mothersOf c (tables ps (drop (2 ^ p.s) (drop at annex))) in
-        let e : mothersOf c (tables (placesInUse (drop i places)) (drop at annex)) ≡ x + rest =
-        ap (λ (l : List Place). mothersOf c (tables l (drop at annex))) (next-taken places i p hi ep nz)
+        let ps = places_in_use (drop (i + 1) places) in
+        let rest = mothers_of c (tables ps (drop (2 ^ p.s) (drop at annex))) in
+        let e : mothers_of c (tables (places_in_use (drop i places)) (drop at annex)) ≡ x + rest =
+        ap (λ (l : List Place). mothers_of c (tables l (drop at annex))) (next-taken places i p hi ep nz)
         ∙ ap (λ (m : ℕ). m + rest)
         (sym (ex ∙ ap (λ (l : List ℕ). matching c (record { b = p.b; s = p.s; runs = decode l })) (part-is places i p hi ep nz annex at w size es))) in
-        let f : rest ≡ mothersOf c (tables ps (drop (at + size) annex)) = ap (λ (a : List ℕ). mothersOf c (tables ps a)) (rest-is places i p hi ep nz annex at w size es) in
+        let f : rest ≡ mothers_of c (tables ps (drop (at + size) annex)) = ap (λ (a : List ℕ). mothers_of c (tables ps a)) (rest-is places i p hi ep nz annex at w size es) in
         record { left = omega (arith, s.left); few = omega (arith, s.few) }
 
 -- ---- for each address of a block
 
 pub record Sums (places : List Place) (annex : List ℕ) (base n i at : ℕ) (mothers : List ℕ) : Type 0 where
-  pub size : length mothers ≡ blockSize
+  pub size : length mothers ≡ block_size
   pub each : (j : ℕ) → j < n → Sum places annex (base + j) i at (get_or mothers j 0)
   pub others : (j : ℕ) → n ≤ j → get_or mothers j 0 ≡ 0
-  pub good : T (annexRight (placesInUse (drop i places)) (drop at annex))
+  pub good : T (annex_right (places_in_use (drop i places)) (drop at annex))
 
 module _ (places : List Place) (annex : List ℕ) (base n : ℕ) where
-  pub sums-start : (mothers : List ℕ) → length mothers ≡ blockSize → AtMost 0 mothers → T (annexRight (placesInUse places) annex) → Sums places annex base n 0 0 mothers
+  pub sums-start : (mothers : List ℕ) → length mothers ≡ block_size → AtMost 0 mothers → T (annex_right (places_in_use places) annex) → Sums places annex base n 0 0 mothers
   sums-start mothers e z t =
       let none : (j : ℕ) → get_or mothers j 0 ≡ 0 = λ j. omega (arith, z j) in
       record {
@@ -118,7 +118,7 @@ module _ (places : List Place) (annex : List ℕ) (base n : ℕ) where
       }
 
   module _ (i at : ℕ) (mothers : List ℕ) (u : Sums places annex base n i at mothers) where
-    pub sums-end : length places ≤ i → Stored base n (tables (placesInUse places) annex) mothers
+    pub sums-end : length places ≤ i → Stored base n (tables (places_in_use places) annex) mothers
     sums-end h = record { size = u.size; stored = λ j l. sum-end places annex (base + j) i at (get_or mothers j 0) (u.each j l) h }
 
     pub sums-small : i ≤ 15 → AtMost 15728640 mothers
@@ -128,8 +128,8 @@ module _ (places : List Place) (annex : List ℕ) (base n : ℕ) where
         go (yes l) = omega (arith, (u.each j l).few)
         go (no l) = omega (arith, u.others j (omega arith))
 
-    module _ (p : Place) (hi : i < length places) (ep : p ≡ get_or places i noPlace) where
-      pub sums-stop : p.b ≡ 0 → Stored base n (tables (placesInUse places) annex) mothers
+    module _ (p : Place) (hi : i < length places) (ep : p ≡ get_or places i no_place) where
+      pub sums-stop : p.b ≡ 0 → Stored base n (tables (places_in_use places) annex) mothers
       sums-stop z = record { size = u.size; stored = λ j l. sum-stop places annex (base + j) i at (get_or mothers j 0) (u.each j l) p hi ep z }
 
       module _ (nz : p.b ≡ 0 → ⊥) (w : Walk places annex i at) (size : ℕ) (es : size ≡ 2 ^ p.s) where
@@ -137,23 +137,23 @@ module _ (places : List Place) (annex : List ℕ) (base n : ℕ) where
         part = take (at + size - at) (drop at annex)
 
         abbrev table : Bool
-        table = tableRight (annexEntry (p.b - p.s)) p.count part
+        table = table_right (annex_entry (p.b - p.s)) p.count part
 
         abbrev others-right : Bool
-        others-right = annexRight (placesInUse (drop (i + 1) places)) (drop (at + size) annex)
+        others-right = annex_right (places_in_use (drop (i + 1) places)) (drop (at + size) annex)
 
         right : T (table && others-right)
-        unfolding annexRight
+        unfolding annex_right
         right =
             subst T
-            (ap (λ (l : List Place). annexRight l (drop at annex)) (next-taken places i p hi ep nz)
-            ∙ ap₂ (λ (x y : List ℕ). tableRight (annexEntry (p.b - p.s)) p.count x && annexRight (placesInUse (drop (i + 1) places)) y)
+            (ap (λ (l : List Place). annex_right l (drop at annex)) (next-taken places i p hi ep nz)
+            ∙ ap₂ (λ (x y : List ℕ). table_right (annex_entry (p.b - p.s)) p.count x && annex_right (places_in_use (drop (i + 1) places)) y)
             (sym (part-is places i p hi ep nz annex at w size es)) (rest-is places i p hi ep nz annex at w size es))
             u.good
 
         pub sums-laid : Laid part
         sums-laid =
-            right-laid (annexEntry (p.b - p.s)) p.count part (walk-few places i p hi ep nz annex at w size es)
+            right-laid (annex_entry (p.b - p.s)) p.count part (walk-few places i p hi ep nz annex at w size es)
             (test-true table (and_left table others-right right))
 
         pub sums_on : (after : List ℕ) → Raised (λ c. matching c (table_of p.b p.s part)) base n mothers after

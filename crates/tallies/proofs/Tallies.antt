@@ -14,7 +14,7 @@ use Rattle.lists.specs.Runs.{count}
 use Rattle.lists.proofs.Tests.{no_true, is, is-yes, is-no}
 use Rattle.lists.proofs.RunLaws.{count-append}
 use Rattle.rules.specs.Sound.{naming}
-use Rattle.tallies.specs.Tally.{blockSize, Tallied, Others, AtMost}
+use Rattle.tallies.specs.Tally.{block_size, Tallied, Others, AtMost}
 use Rattle.tallies.proofs.Sums.{count-le}
 
 naming-append : (c : ℕ) (a b : List ℕ) → naming c (a ++ b) ≡ naming c a + naming c b
@@ -50,26 +50,26 @@ bit-even a w e = go (ℕ_discrete (w % 2) 0)
 
 -- ---- the words of a block
 
-module _ (base a : ℕ) (hb : base % blockSize ≡ 0) where
-  same_block : (j : ℕ) → j < blockSize → base + j ≡ a → a / blockSize ≡ base / blockSize
+module _ (base a : ℕ) (hb : base % block_size ≡ 0) where
+  same_block : (j : ℕ) → j < block_size → base + j ≡ a → a / block_size ≡ base / block_size
   same_block j h e = omega arith
 
-  in_block : a / blockSize ≡ base / blockSize → base + a % blockSize ≡ a
+  in_block : a / block_size ≡ base / block_size → base + a % block_size ≡ a
   in_block e = omega arith
 
 -- among the words from `from` on, no word before q and not the word at q
-pub others-on : (base : ℕ) (ws : List ℕ) (from q b block : ℕ) (any : Bool) → b ≡ get_or ws q 0 / 2 / blockSize → block ≡ base / blockSize
+pub others-on : (base : ℕ) (ws : List ℕ) (from q b block : ℕ) (any : Bool) → b ≡ get_or ws q 0 / 2 / block_size → block ≡ base / block_size
     → (any ≡ false → Others base ws from q) → (any || eqb b block) ≡ false → Others base ws from (q + 1)
 others-on base ws from q b block true eb ek o f = absurd (no_true (sym f))
 others-on base ws from q b block false eb ek o f = λ j l h e. go j l h e (ℕ_discrete j q)
   where
-    go : (j : ℕ) → from ≤ j → j < q + 1 → get_or ws j 0 / 2 / blockSize ≡ base / blockSize → Dec (j ≡ q) → ⊥
-    go j l h e (yes z) = eqb-false b block f (eb ∙ ap (λ (x : ℕ). get_or ws x 0 / 2 / blockSize) (sym z) ∙ e ∙ sym ek)
+    go : (j : ℕ) → from ≤ j → j < q + 1 → get_or ws j 0 / 2 / block_size ≡ base / block_size → Dec (j ≡ q) → ⊥
+    go j l h e (yes z) = eqb-false b block f (eb ∙ ap (λ (x : ℕ). get_or ws x 0 / 2 / block_size) (sym z) ∙ e ∙ sym ek)
     go j l h e (no z) = o refl j l (omega arith) e
 
 -- ---- the counters
 
-pub tallied-none : (n base : ℕ) → n ≡ blockSize → Tallied base [] (replicate n 0) (replicate n 0)
+pub tallied-none : (n base : ℕ) → n ≡ block_size → Tallied base [] (replicate n 0) (replicate n 0)
 unfolding count naming
 tallied-none n base e =
     record {
@@ -84,14 +84,14 @@ unfolding naming
 naming-le c l = omega (arith, count-le c (map (λ (w : ℕ). w / 2) l), length-map l (λ (w : ℕ). w / 2))
 
 -- no counter passes the number of words
-module _ (base : ℕ) (ws names evens : List ℕ) (q i : ℕ) (hq : q ≤ length ws) (t : Tallied base (take q ws) names evens) (hi : i < blockSize) where
+module _ (base : ℕ) (ws names evens : List ℕ) (q i : ℕ) (hq : q ≤ length ws) (t : Tallied base (take q ws) names evens) (hi : i < block_size) where
   pub named-le : get_or names i 0 ≤ q
   named-le = omega (arith, t.named i hi, naming-le (base + i) (take q ws), length-take-le q ws hq)
 
   pub even-le : get_or evens i 0 ≤ q
   even-le = omega (arith, t.even i hi, count-le ((base + i) * 2) (take q ws), length-take-le q ws hq)
 
-module _ (base : ℕ) (ws names evens : List ℕ) (q : ℕ) (hb : base % blockSize ≡ 0) (hq : q < length ws) (t : Tallied base (take q ws) names evens) where
+module _ (base : ℕ) (ws names evens : List ℕ) (q : ℕ) (hb : base % block_size ≡ 0) (hq : q < length ws) (t : Tallied base (take q ws) names evens) where
   other_name : (j : ℕ) → (base + j ≡ get_or ws q 0 / 2 → ⊥) → naming (base + j) (take (q + 1) ws) ≡ naming (base + j) (take q ws)
   other_name j z =
       let o : is (base + j) (get_or ws q 0 / 2) ≡ 0 = is-no (base + j) (get_or ws q 0 / 2) z in
@@ -104,7 +104,7 @@ module _ (base : ℕ) (ws names evens : List ℕ) (q : ℕ) (hb : base % blockSi
       omega (arith, n)
 
   -- a word of another block adds to no counter
-  pub tallied-past : (get_or ws q 0 / 2 / blockSize ≡ base / blockSize → ⊥) → Tallied base (take (q + 1) ws) names evens
+  pub tallied-past : (get_or ws q 0 / 2 / block_size ≡ base / block_size → ⊥) → Tallied base (take (q + 1) ws) names evens
   tallied-past z =
       record {
         names-size = t.names-size;
@@ -114,14 +114,14 @@ module _ (base : ℕ) (ws names evens : List ℕ) (q : ℕ) (hb : base % blockSi
       }
 
   -- a word of the block adds to the counters of its address, and to no other
-  module _ (i e : ℕ) (ei : i ≡ get_or ws q 0 / 2 % blockSize) (ee : e ≡ 1 - get_or ws q 0 % 2) (s : get_or ws q 0 / 2 / blockSize ≡ base / blockSize) where
+  module _ (i e : ℕ) (ei : i ≡ get_or ws q 0 / 2 % block_size) (ee : e ≡ 1 - get_or ws q 0 % 2) (s : get_or ws q 0 / 2 / block_size ≡ base / block_size) where
     home : base + i ≡ get_or ws q 0 / 2
     home = ap (λ (x : ℕ). base + x) ei ∙ in_block base (get_or ws q 0 / 2) hb s
 
-    small : i < blockSize
+    small : i < block_size
     small = omega arith
 
-    name : (j : ℕ) → j < blockSize → Dec (j ≡ i) → get_or (set names i (get_or names i 0 + 1)) j 0 ≡ naming (base + j) (take (q + 1) ws)
+    name : (j : ℕ) → j < block_size → Dec (j ≡ i) → get_or (set names i (get_or names i 0 + 1)) j 0 ≡ naming (base + j) (take (q + 1) ws)
     name j h (yes z) =
         let g : get_or (set names i (get_or names i 0 + 1)) j 0 ≡ get_or names i 0 + 1 =
         ap (λ (k : ℕ). get_or (set names i (get_or names i 0 + 1)) k 0) z ∙ get_or-set_same names i (get_or names i 0 + 1) 0 (omega (arith, small, t.names-size)) in
@@ -131,7 +131,7 @@ module _ (base : ℕ) (ws names evens : List ℕ) (q : ℕ) (hb : base % blockSi
     name j h (no z) =
         get_or-set_other names i j (get_or names i 0 + 1) 0 z ∙ t.named j h ∙ sym (other_name j (λ x. z (omega (arith, home))))
 
-    evened : (j : ℕ) → j < blockSize → Dec (j ≡ i) → get_or (set evens i (get_or evens i 0 + e)) j 0 ≡ count ((base + j) * 2) (take (q + 1) ws)
+    evened : (j : ℕ) → j < block_size → Dec (j ≡ i) → get_or (set evens i (get_or evens i 0 + e)) j 0 ≡ count ((base + j) * 2) (take (q + 1) ws)
     evened j h (yes z) =
         let g : get_or (set evens i (get_or evens i 0 + e)) j 0 ≡ get_or evens i 0 + e =
         ap (λ (k : ℕ). get_or (set evens i (get_or evens i 0 + e)) k 0) z ∙ get_or-set_same evens i (get_or evens i 0 + e) 0 (omega (arith, small, t.evens-size)) in
@@ -153,7 +153,7 @@ module _ (base : ℕ) (ws names evens : List ℕ) (q : ℕ) (hb : base % blockSi
         })
 
 -- words of other blocks, passed over together
-pub tallied-skip : (base : ℕ) (ws names evens : List ℕ) (q m : ℕ) → base % blockSize ≡ 0 → q + m ≤ length ws → Others base ws q (q + m) → Tallied base (take q ws) names evens
+pub tallied-skip : (base : ℕ) (ws names evens : List ℕ) (q m : ℕ) → base % block_size ≡ 0 → q + m ≤ length ws → Others base ws q (q + m) → Tallied base (take q ws) names evens
     → Tallied base (take (q + m) ws) names evens
 tallied-skip base ws names evens q zero hb hl o t =
     let z : q ≡ q + 0 = omega arith in

@@ -17,9 +17,9 @@ use Rattle.slots.specs.Payload.{pay}
 use Rattle.layout.specs.Decode.{decode, place_of}
 use Rattle.layout.specs.Document.{carry}
 use Rattle.layout.specs.Moves.{wrap}
-use Rattle.rules.specs.Tables.{hashEntry, matching}
+use Rattle.rules.specs.Tables.{hash_entry, matching}
 use Rattle.annex.specs.Stored.{table_of}
-use Rattle.sound.specs.Reading.{Laid, Read, readAt}
+use Rattle.sound.specs.Reading.{Laid, Read, read_at}
 use Rattle.tallies.specs.Tally.{Raised, AtMost}
 use Rattle.tallies.proofs.Sums.{count-le}
 use Rattle.tallies.proofs.Carries.{carry-is, carry-small, carry-on, read_is}
@@ -74,19 +74,19 @@ one-round n a h = go (dec_lt (a + 1) n)
 pub record Reached (part : List ℕ) (b s c a k p : ℕ) : Type 0 where
   pub slot : a ≡ c % 2 ^ s
   pub waiting : k ≡ carry (decode part) a
-  pub payload : p ≡ hashEntry b s (c % 2 ^ b)
+  pub payload : p ≡ hash_entry b s (c % 2 ^ b)
 
 module _ (part : List ℕ) (b s : ℕ) (laid : Laid part) (en : length part ≡ 2 ^ s) where
   slot-in : (c a : ℕ) → a ≡ c % 2 ^ s → a < length part
   slot-in c a e = omega (arith, mod-lt c (pow_pos s))
 
-  pub reached-first : (c a k p : ℕ) → a ≡ c % 2 ^ s → k ≡ place_of part a → p ≡ hashEntry b s (c % 2 ^ b) → Reached part b s (c + 0) a k p
+  pub reached-first : (c a k p : ℕ) → a ≡ c % 2 ^ s → k ≡ place_of part a → p ≡ hash_entry b s (c % 2 ^ b) → Reached part b s (c + 0) a k p
   reached-first c a k p ea ek ep =
       let z : c ≡ c + 0 = omega arith in
       record {
         slot = ea ∙ ap (λ (x : ℕ). x % 2 ^ s) z;
         waiting = carry-is part laid a k (slot-in c a ea) ek;
-        payload = ep ∙ ap (λ (x : ℕ). hashEntry b s (x % 2 ^ b)) z;
+        payload = ep ∙ ap (λ (x : ℕ). hash_entry b s (x % 2 ^ b)) z;
       }
 
   module _ (c a k p : ℕ) (r : Reached part b s c a k p) where
@@ -96,14 +96,14 @@ module _ (part : List ℕ) (b s : ℕ) (laid : Laid part) (en : length part ≡ 
     pub reached-small : k < length part
     reached-small = carry-small part laid a k reached-in r.waiting
 
-    run_is : readAt part a k ≡ get_or (decode part) (c % 2 ^ s) []
+    run_is : read_at part a k ≡ get_or (decode part) (c % 2 ^ s) []
     run_is = read_is part laid a k reached-in r.waiting ∙ ap (λ (x : ℕ). get_or (decode part) x []) r.slot
 
-    pub reached-count : (m : ℕ) → m ≡ count p (readAt part a k) → m ≡ matching c (table_of b s part)
+    pub reached-count : (m : ℕ) → m ≡ count p (read_at part a k) → m ≡ matching c (table_of b s part)
     unfolding matching
     reached-count m e = e ∙ ap₂ (λ (x : ℕ) (l : List ℕ). count x l) r.payload run_is
 
-    module _ (c' a' k' : ℕ) (ec : c' ≡ suc c) (ea : a' ≡ wrap (length part) a 1) (ek : k' ≡ k + length (readAt part a k) - 1) where
+    module _ (c' a' k' : ℕ) (ec : c' ≡ suc c) (ea : a' ≡ wrap (length part) a 1) (ek : k' ≡ k + length (read_at part a k) - 1) where
       round : a' ≡ suc a % length part
       round = ea ∙ one-round (length part) a reached-in
 
@@ -114,17 +114,17 @@ module _ (part : List ℕ) (b s : ℕ) (laid : Laid part) (en : length part ≡ 
       next-waiting = carry-on part laid a k reached-in r.waiting k' ek ∙ ap (carry (decode part)) (sym round)
 
       -- where the table begins anew, the payload is asked for anew
-      pub reached-anew : (p' : ℕ) → p' ≡ hashEntry b s (c' % 2 ^ b) → Reached part b s c' a' k' p'
+      pub reached-anew : (p' : ℕ) → p' ≡ hash_entry b s (c' % 2 ^ b) → Reached part b s c' a' k' p'
       reached-anew p' ep = record { slot = next-is ∙ ap (λ (x : ℕ). x % 2 ^ s) (sym ec); waiting = next-waiting; payload = ep }
 
       pub reached-next : s < b → (a' ≡ 0 → ⊥) → Reached part b s c' a' k' p
       reached-next h nz =
           reached-anew p
-          (r.payload ∙ ap (pay 18 (b - s)) (sym (same-print s b c h (λ z. nz (next-is ∙ z)))) ∙ ap (λ (x : ℕ). hashEntry b s (x % 2 ^ b)) (sym ec))
+          (r.payload ∙ ap (pay 18 (b - s)) (sym (same-print s b c h (λ z. nz (next-is ∙ z)))) ∙ ap (λ (x : ℕ). hash_entry b s (x % 2 ^ b)) (sym ec))
 
 pub few-found : (part : List ℕ) (c k t v len m n : ℕ) → length part ≤ 1048576 → Read part c k t v len m n → (len ≤ 1048576) × (n ≤ 1048576)
 few-found part c k t v len m n h r =
-    (omega (arith, r.fits), omega (arith, r.fits, r.size, r.voids, count-le v (readAt part c k)))
+    (omega (arith, r.fits), omega (arith, r.fits, r.size, r.voids, count-le v (read_at part c k)))
 
 -- ---- the counters, of which the first i have risen
 

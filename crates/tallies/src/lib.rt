@@ -1,25 +1,25 @@
 // The counters of a block of addresses: queue words that name each address, and mother hashes that match it.
 ghost use Rattle.std.specs.Prelude.{◌≡◌, false, [], ◌+◌, ◌-◌, ◌/◌, ◌%◌, ◌^◌, ◌≤◌, ◌<◌, T, length, take};
-ghost use Rattle.directory.specs.Places.{placesInUse, directoryRight, wordsTaken};
+ghost use Rattle.directory.specs.Places.{places_in_use, directory_right, words_taken};
 ghost use Rattle.rules.specs.Tables.{matching, tables};
-ghost use Rattle.rules.specs.Sound.{annexRight};
+ghost use Rattle.rules.specs.Sound.{annex_right};
 ghost use Rattle.annex.specs.Stored.{table_of};
 ghost use Rattle.sound.specs.Reading.{Laid};
-ghost use Rattle.tallies.specs.Tally.{blockSize, Tallied, Others, AtMost, Raised, Stored};
+ghost use Rattle.tallies.specs.Tally.{block_size, Tallied, Others, AtMost, Raised, Stored};
 
 // How many addresses a block has. One pass over the queue counts the words of one block, in counters on the stack.
 pub const BLOCK: usize = 8192;
 
 // The number of the block of address a.
 fn block_of(a: u32) -> u32
-    ensures { result ≡ a / blockSize }
+    ensures { result ≡ a / block_size }
 {
     a / BLOCK as u32
 }
 
 // The place of address a in its block.
 fn place_of(a: u32) -> usize
-    ensures { (result ≡ a % blockSize) × (result < blockSize) }
+    ensures { (result ≡ a % block_size) × (result < block_size) }
 {
     (a % BLOCK as u32) as usize
 }
@@ -55,7 +55,7 @@ fn tally_words(
     names: &mut [u32],
     evens: &mut [u32],
 )
-    requires { (from ≤ to) × (to ≤ length queue.now) × (length queue.now ≤ 1048576) × (base % blockSize ≡ 0)
+    requires { (from ≤ to) × (to ≤ length queue.now) × (length queue.now ≤ 1048576) × (base % block_size ≡ 0)
         × Tallied base (take from queue.now) names.old evens.old }
     ensures { Tallied base (take to queue.now) names.new evens.new }
 {
@@ -76,7 +76,7 @@ fn tally_words(
 
 // How many queue words name each address of the block, and how many of them are even. Most words are of other blocks, and are passed over 16 at a time.
 pub fn tally_block(queue: &[u32], base: u32, names: &mut [u32], evens: &mut [u32])
-    requires { (length queue.now ≤ 1048576) × (base % blockSize ≡ 0) × Tallied base [] names.old evens.old }
+    requires { (length queue.now ≤ 1048576) × (base % block_size ≡ 0) × Tallied base [] names.old evens.old }
     ensures { Tallied base queue.now names.new evens.new }
 {
     let n = queue.len();
@@ -105,7 +105,7 @@ pub fn onward(k: usize, len: usize) -> usize
 // Adds to the counters of the block's first n addresses how many mother hashes of one annex table match each. The runs are read in the order of the addresses, each
 // from where the one before ends; the payload changes where the table begins anew.
 fn tally_table(part: &[u32], b: u32, s: u32, base: u32, n: usize, mothers: &mut [u32])
-    requires { (3 ≤ s) × (s < b) × (b ≤ 20) × (length part.now ≡ 2 ^ s) × Laid part.now × (base ≤ 1048576) × (n ≤ blockSize) × (length mothers.old ≡ blockSize)
+    requires { (3 ≤ s) × (s < b) × (b ≤ 20) × (length part.now ≡ 2 ^ s) × Laid part.now × (base ≤ 1048576) × (n ≤ block_size) × (length mothers.old ≡ block_size)
         × AtMost 15728640 mothers.old }
     ensures { Raised (λ c. matching c (table_of b s part.now)) base n mothers.old mothers.new }
 {
@@ -137,9 +137,9 @@ pub fn tally_mothers(
     n: usize,
     mothers: &mut [u32],
 )
-    requires { T (directoryRight 20 places) × (wordsTaken (placesInUse places) ≤ length annex.now) × T (annexRight (placesInUse places) annex.now)
-        × (base ≤ 1048576) × (n ≤ blockSize) × (length mothers.old ≡ blockSize) × AtMost 0 mothers.old }
-    ensures { Stored base n (tables (placesInUse places) annex.now) mothers.new }
+    requires { T (directory_right 20 places) × (words_taken (places_in_use places) ≤ length annex.now) × T (annex_right (places_in_use places) annex.now)
+        × (base ≤ 1048576) × (n ≤ block_size) × (length mothers.old ≡ block_size) × AtMost 0 mothers.old }
+    ensures { Stored base n (tables (places_in_use places) annex.now) mothers.new }
 {
     let mut at: usize = 0;
     let mut i: usize = 0;

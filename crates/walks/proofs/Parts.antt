@@ -9,14 +9,14 @@ use lib.ListN.{length, take, drop, get_or, length-reverse, length-map, length-dr
 use lib.Seq.{take_all, take-suc, take-length, drop-cons, length-take-le}
 use Rattle.lists.specs.Lists.{sum}
 use Rattle.layout.specs.Machine.{Entry, start, more}
-use Rattle.layout.specs.Decode.{entry, entry_of, stop, steps, firstMark, passed, skip}
-use Rattle.layout.specs.Moves.{lefts, rights, isStart}
+use Rattle.layout.specs.Decode.{entry, entry_of, stop, steps, first_mark, passed, skip}
+use Rattle.layout.specs.Moves.{lefts, rights, is_start}
 
 -- ---- to the left
 
 -- the occupied bits of the slots that a walk comes to, with the first one's
 abbrev pub marks : List ℕ → ℕ
-marks l = firstMark l + passed l
+marks l = first_mark l + passed l
 
 -- the slots from i on are passed, with m occupied bits: what is still to come
 pub record Homing (l : List ℕ) (i m : ℕ) : Type 0 where
@@ -110,11 +110,11 @@ module _ (ws : List ℕ) (c own s m : ℕ) (hc : c < length ws) (eo : own ≡ ge
   head =
       ap reverse (ep ∙ ap (λ (k : ℕ). take k ws) (add-one c) ∙ take-suc ws c 0 hc) ∙ reverse-append (take c ws) (get_or ws c 0 ∷ [])
 
-  first : firstMark (lefts ws c) ≡ own
-  first = ap firstMark (parts (drop (c + 1) ws) refl ∙ ap (λ (t : List ℕ). t ++ reverse (drop (c + 1) ws)) head) ∙ sym eo
+  first : first_mark (lefts ws c) ≡ own
+  first = ap first_mark (parts (drop (c + 1) ws) refl ∙ ap (λ (t : List ℕ). t ++ reverse (drop (c + 1) ws)) head) ∙ sym eo
 
   pub own-counted : own ≤ m
-  own-counted = omega (arith, em, ap firstMark head, eo)
+  own-counted = omega (arith, em, ap first_mark head, eo)
 
   pub home-near : s ≤ c → (steps (lefts ws c) ≡ s) × (passed (lefts ws c) ≡ m - own)
   home-near h =
@@ -134,7 +134,7 @@ module _ (ws : List ℕ) (c own s m : ℕ) (hc : c < length ws) (eo : own ≡ ge
 -- k slots of the part are passed, and togo runs are still to be skipped
 pub record Skipping (ws : List ℕ) (goal k togo : ℕ) : Type 0 where
   pub place : skip goal (map entry ws) ≡ k + skip togo (drop k (map entry ws))
-  pub rest : goal - sum isStart (map entry ws) ≡ togo - sum isStart (drop k (map entry ws))
+  pub rest : goal - sum is_start (map entry ws) ≡ togo - sum is_start (drop k (map entry ws))
 
 pub skipping-start : (ws : List ℕ) (goal : ℕ) → Skipping ws goal 0 goal
 skipping-start ws goal = record { place = omega arith; rest = refl }
@@ -149,15 +149,15 @@ module _ (ws : List ℕ) (goal k togo w s : ℕ) (p : Skipping ws goal k togo) (
       drop-cons (map entry ws) k (start 0) (omega (arith, length-map ws entry))
       ∙ ap (λ (x : Entry). x ∷ after) (get_or-map entry ws k 0 ∙ ap entry (sym e))
 
-  begun : (f x : ℕ) → s ≡ 1 - f → isStart (entry_of f x) ≡ s
+  begun : (f x : ℕ) → s ≡ 1 - f → is_start (entry_of f x) ≡ s
   begun zero x z = sym z
   begun (suc f) x z = omega arith
 
-  starts : sum isStart (drop k (map entry ws)) ≡ s + sum isStart after
+  starts : sum is_start (drop k (map entry ws)) ≡ s + sum is_start after
   unfolding sum
-  starts = ap (sum isStart) cut' ∙ ap (λ (x : ℕ). x + sum isStart after) (begun (w / 2 % 2) (w / 8) es)
+  starts = ap (sum is_start) cut' ∙ ap (λ (x : ℕ). x + sum is_start after) (begun (w / 2 % 2) (w / 8) es)
 
-  pub skipping-found : togo < s → (skip goal (map entry ws) ≡ k) × (0 ≡ goal - sum isStart (map entry ws))
+  pub skipping-found : togo < s → (skip goal (map entry ws) ≡ k) × (0 ≡ goal - sum is_start (map entry ws))
   skipping-found g = (p.place ∙ ap (λ (t : List Entry). k + skip togo t) cut' ∙ go (w / 2 % 2) togo es g, omega (arith, p.rest, starts))
     where
       go : (f t : ℕ) → s ≡ 1 - f → t < s → k + skip t (entry_of f (w / 8) ∷ after) ≡ k
@@ -173,7 +173,7 @@ module _ (ws : List ℕ) (goal k togo w s : ℕ) (p : Skipping ws goal k togo) (
         place =
             p.place ∙ ap (λ (t : List Entry). k + skip togo t) cut' ∙ go (w / 2 % 2) togo es g
             ∙ ap (λ (j : ℕ). k + suc (skip (togo - s) (drop j (map entry ws)))) i ∙ (omega arith);
-        rest = omega (arith, p.rest, starts, ap (λ (j : ℕ). sum isStart (drop j (map entry ws))) i);
+        rest = omega (arith, p.rest, starts, ap (λ (j : ℕ). sum is_start (drop j (map entry ws))) i);
       }
     where
       go : (f t : ℕ) → s ≡ 1 - f → s ≤ t → k + skip t (entry_of f (w / 8) ∷ after) ≡ k + suc (skip (t - s) after)
@@ -185,11 +185,11 @@ module _ (ws : List ℕ) (goal k togo w s : ℕ) (p : Skipping ws goal k togo) (
           let d : t ≡ t - s = omega arith in
           ap (λ (j : ℕ). k + suc (skip j after)) d
 
-pub skipping-end : (ws : List ℕ) (goal k togo : ℕ) → Skipping ws goal k togo → length ws ≤ k → (skip goal (map entry ws) ≡ k) × (togo ≡ goal - sum isStart (map entry ws))
+pub skipping-end : (ws : List ℕ) (goal k togo : ℕ) → Skipping ws goal k togo → length ws ≤ k → (skip goal (map entry ws) ≡ k) × (togo ≡ goal - sum is_start (map entry ws))
 skipping-end ws goal k togo p h =
     let z : drop k (map entry ws) ≡ [] = drop_of_length-le (map entry ws) {i = k} (omega (arith, length-map ws entry)) in (
       p.place ∙ ap (λ (t : List Entry). k + skip togo t) z ∙ (unfold skip in omega arith),
-      sym (p.rest ∙ ap (λ (t : List Entry). togo - sum isStart t) z ∙ (unfold sum in omega arith)),
+      sym (p.rest ∙ ap (λ (t : List Entry). togo - sum is_start t) z ∙ (unfold sum in omega arith)),
     )
 
 skip-near : (m : ℕ) (a b : List Entry) → skip m a < length a → skip m (a ++ b) ≡ skip m a
@@ -199,17 +199,17 @@ skip-near m (more p ∷ a) b h = ap suc (skip-near m a b (omega arith))
 skip-near zero (start p ∷ a) b h = refl
 skip-near (suc m) (start p ∷ a) b h = ap suc (skip-near m a b (omega arith))
 
-skip-far : (m : ℕ) (a b : List Entry) → length a ≤ skip m a → skip m (a ++ b) ≡ length a + skip (m - sum isStart a) b
+skip-far : (m : ℕ) (a b : List Entry) → length a ≤ skip m a → skip m (a ++ b) ≡ length a + skip (m - sum is_start a) b
 unfolding skip sum
 skip-far m [] b h =
     let d : m ≡ m - 0 = omega arith in
     ap (λ (j : ℕ). skip j b) d ∙ (omega arith)
 skip-far m (more p ∷ a) b h =
-    let d : m - sum isStart a ≡ m - (0 + sum isStart a) = omega arith in
+    let d : m - sum is_start a ≡ m - (0 + sum is_start a) = omega arith in
     ap suc (skip-far m a b (omega arith)) ∙ ap (λ (j : ℕ). suc (length a + skip j b)) d ∙ (omega arith)
 skip-far zero (start p ∷ a) b h = absurd (omega arith)
 skip-far (suc m) (start p ∷ a) b h =
-    let d : m - sum isStart a ≡ suc m - (1 + sum isStart a) = omega arith in
+    let d : m - sum is_start a ≡ suc m - (1 + sum is_start a) = omega arith in
     ap suc (skip-far m a b (omega arith)) ∙ ap (λ (j : ℕ). suc (length a + skip j b)) d ∙ (omega arith)
 
 -- the circle to the right of b, in its two parts
@@ -224,7 +224,7 @@ module _ (ws : List ℕ) (b m s : ℕ) (hb : b < length ws) (part : List ℕ) (e
   seek-near h =
       ap (skip m) (parts' (take b ws) refl) ∙ skip-near m (map entry part) (map entry (take b ws)) (omega (arith, size', es)) ∙ es
 
-  pub seek-far : length ws - b ≤ s → (rest : List ℕ) → rest ≡ take b ws → (togo s' : ℕ) → togo ≡ m - sum isStart (map entry part) → skip togo (map entry rest) ≡ s'
+  pub seek-far : length ws - b ≤ s → (rest : List ℕ) → rest ≡ take b ws → (togo s' : ℕ) → togo ≡ m - sum is_start (map entry part) → skip togo (map entry rest) ≡ s'
       → skip m (rights ws b) ≡ length ws - b + s'
   seek-far h rest er togo s' et es' =
       ap (skip m) (parts' rest er) ∙ skip-far m (map entry part) (map entry rest) (omega (arith, size', es))

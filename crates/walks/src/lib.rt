@@ -1,8 +1,8 @@
 // One table of words, main or annex, read only: the slots of its circle, and where the run of an address is.
 ghost use Rattle.std.specs.Prelude.{◌≡◌, map, reverse, suc, ◌+◌, ◌-◌, ◌/◌, ◌%◌, ◌≤◌, ◌<◌, length};
 ghost use Rattle.lists.specs.Lists.{sum};
-ghost use Rattle.layout.specs.Decode.{turn, entry, steps, passed, firstMark, skip, place_of, reading};
-ghost use Rattle.layout.specs.Moves.{wrap, back, lefts, rights, isStart};
+ghost use Rattle.layout.specs.Decode.{turn, entry, steps, passed, first_mark, skip, place_of, reading};
+ghost use Rattle.layout.specs.Moves.{wrap, back, lefts, rights, is_start};
 ghost use Rattle.layout.specs.Reading.{run_from, home_of};
 
 // k slots to the right of p, in a circle of n.
@@ -51,7 +51,7 @@ pub struct Home {
 
 // From the right end of a part to the left, to a slot that is not shifted: the slots passed, and the occupied bits of all that were come to.
 fn walk_left(part: &[u32]) -> Home
-    ensures { (steps (reverse part.now) ≡ result.steps) × (firstMark (reverse part.now) + passed (reverse part.now) ≡ result.runs)
+    ensures { (steps (reverse part.now) ≡ result.steps) × (first_mark (reverse part.now) + passed (reverse part.now) ≡ result.runs)
         × (result.steps ≤ length part.now) × (result.runs ≤ length part.now) }
 {
     let n = part.len();
@@ -101,7 +101,7 @@ pub struct Skipped {
 
 // From the left end of a part to the right, to the start of run m of those that begin there: the slots passed, and the runs that are still to be skipped.
 fn skip_runs(part: &[u32], m: usize) -> Skipped
-    ensures { (skip m (map entry part.now) ≡ result.steps) × (result.togo ≡ m - sum isStart (map entry part.now))
+    ensures { (skip m (map entry part.now) ≡ result.steps) × (result.togo ≡ m - sum is_start (map entry part.now))
         × (result.steps ≤ length part.now) }
 {
     let n = part.len();

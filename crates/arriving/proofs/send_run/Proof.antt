@@ -6,15 +6,15 @@ use lib.ListN.{length, take}
 use borrow.Author.Rules.{rules}
 use Rattle.layout.specs.Decode.{run_at}
 use Rattle.layout.proofs.Searches.{true-lt, false-le}
-use Rattle.arriving.specs.Arrivals.{Arrived, ofRun, halves}
+use Rattle.arriving.specs.Arrivals.{Arrived, of_run, halves}
 use Rattle.arriving.proofs.Loops.{run_short, run-start, run_end, run-count, arrive-start, arrive-again, arrive-end}
 use Rattle.arriving.proofs.send_run.Statement.{statement}
 use Rattle.arriving.proofs.send_run.Tie as tie
 
 abbrev invariant-loop : tie.invariant-loop
 invariant-loop main second₀ c w v n b f used₀ t₀ second used t =
-    (t ≤ n) × (t ≤ length (run_at main c)) × (used ≤ t + t) × (length second ≡ length second₀) × (used ≡ length (ofRun (halves w v n c) (take t (run_at main c))))
-    × Arrived second₀ second (ofRun (halves w v n c) (take t (run_at main c)))
+    (t ≤ n) × (t ≤ length (run_at main c)) × (used ≤ t + t) × (length second ≡ length second₀) × (used ≡ length (of_run (halves w v n c) (take t (run_at main c))))
+    × Arrived second₀ second (of_run (halves w v n c) (take t (run_at main c)))
 
 abbrev decreases-loop : tie.decreases-loop
 decreases-loop main second₀ c w v n b f used₀ t₀ second used t = n - t

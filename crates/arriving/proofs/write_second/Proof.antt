@@ -5,7 +5,7 @@ use native.Mathlib.Omega.{arith}
 use lib.ListN.{length, take, replicate}
 use borrow.Author.Rules.{rules}
 use Rattle.layout.specs.Decode.{decode}
-use Rattle.arriving.specs.Arrivals.{Arrived, ofRuns, halves}
+use Rattle.arriving.specs.Arrivals.{Arrived, of_runs, halves}
 use Rattle.arriving.proofs.Filled.{filled-total}
 use Rattle.arriving.proofs.Whole.{main-start, main-count, main-part, main-none, main-arrive, main-end, second-done, used-done}
 use Rattle.arriving.proofs.write_second.Statement.{statement}
@@ -13,8 +13,8 @@ use Rattle.arriving.proofs.write_second.Tie as tie
 
 abbrev invariant-loop : tie.invariant-loop
 invariant-loop main second₀ w v n used₀ c₀ second used c =
-    (c ≤ n) × (length second ≡ n + n) × (used ≡ length (ofRuns (halves w v n) 0 (take c (decode main))))
-    × Arrived (replicate (n + n) 0) second (ofRuns (halves w v n) 0 (take c (decode main)))
+    (c ≤ n) × (length second ≡ n + n) × (used ≡ length (of_runs (halves w v n) 0 (take c (decode main))))
+    × Arrived (replicate (n + n) 0) second (of_runs (halves w v n) 0 (take c (decode main)))
 
 abbrev decreases-loop : tie.decreases-loop
 decreases-loop main second₀ w v n used₀ c₀ second used c = n - c

@@ -4,8 +4,8 @@ use mathlib.Core.Path.{◌≡◌, refl}
 use native.Mathlib.Omega.{arith}
 use borrow.Author.Rules.{rules}
 use lib.ListN.{length, drop}
-use Rattle.directory.specs.Places.{placesInUse}
-use Rattle.rules.specs.Sound.{annexRight}
+use Rattle.directory.specs.Places.{places_in_use}
+use Rattle.rules.specs.Sound.{annex_right}
 use Rattle.tallies.proofs.InUse.{Walk, walk_start, walk-least, walk-below, walk-most, walk-power, walk-room, walk-size, walk-few, walk-on}
 use Rattle.audit.proofs.Wholes.{annex-stop, annex-end, annex-on, annex-off}
 use Rattle.audit.proofs.annex_right.Statement.{statement}
@@ -14,7 +14,7 @@ use Rattle.audit.proofs.annex_right.Tie as tie
 abbrev invariant-loop : tie.invariant-loop
 invariant-loop annex places at₀ i₀ at i =
     (i ≤ 15) × (length places ≡ 15) × Walk places annex i at
-    × (annexRight (placesInUse places) annex ≡ annexRight (placesInUse (drop i places)) (drop at annex))
+    × (annex_right (places_in_use places) annex ≡ annex_right (places_in_use (drop i places)) (drop at annex))
 
 abbrev decreases-loop : tie.decreases-loop
 decreases-loop annex places at₀ i₀ at i = 15 - i

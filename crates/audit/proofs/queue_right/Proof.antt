@@ -4,13 +4,13 @@ use mathlib.Core.Path.{◌≡◌, refl}
 use native.Mathlib.Omega.{arith}
 use borrow.Author.Rules.{rules}
 use lib.ListN.{drop}
-use Rattle.audit.specs.Queue.{addressesBelow}
+use Rattle.audit.specs.Queue.{addresses_below}
 use Rattle.audit.proofs.Wholes.{queue-on, queue-off, queue-end}
 use Rattle.audit.proofs.queue_right.Statement.{statement}
 use Rattle.audit.proofs.queue_right.Tie as tie
 
 abbrev invariant-loop : tie.invariant-loop
-invariant-loop queue k end n i₀ i = (i ≤ n) × (addressesBelow k queue ≡ addressesBelow k (drop i queue))
+invariant-loop queue k end n i₀ i = (i ≤ n) × (addresses_below k queue ≡ addresses_below k (drop i queue))
 
 abbrev decreases-loop : tie.decreases-loop
 decreases-loop queue k end n i₀ i = n - i

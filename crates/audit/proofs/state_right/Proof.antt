@@ -5,7 +5,7 @@ use lib.Seq.{length-take-le}
 use borrow.Author.Rules.{rules}
 use Rattle.tallies.proofs.InUse.{directory-20}
 use Rattle.tallies.proofs.Sums.{power-20, room-1}
-use Rattle.audit.specs.Queue.{addressesBelow}
+use Rattle.audit.specs.Queue.{addresses_below}
 use Rattle.audit.proofs.Wholes.{below-limit, part_small, so-laid, so-stored, no_table, no-annex, no-queue, all-counts}
 use Rattle.audit.proofs.state_right.Statement.{statement}
 use Rattle.audit.proofs.state_right.Tie as tie
@@ -31,13 +31,13 @@ counts-right-requires c κs = (search (rules, so-laid), search (rules, room-1), 
 returns : tie.Need-returns
 returns c =
     let a = c.before.before.before.before.before.before.before.before.before.before.before.before.args in
-    let named : c.before.before.queue-right.result ≡ addressesBelow a.k (take a.queued a.queue.now) = c.before.before.queue-right.ensures ∙ refl in
+    let named : c.before.before.queue-right.result ≡ addresses_below a.k (take a.queued a.queue.now) = c.before.before.queue-right.ensures ∙ refl in
     search (rules, all-counts)
 
 returns-2 : tie.Need-returns-2
 returns-2 c =
     let a = c.before.before.before.before.before.before.before.before.before.before.before.args in
-    let named : c.before.queue-right.result ≡ addressesBelow a.k (take a.queued a.queue.now) = c.before.queue-right.ensures ∙ refl in
+    let named : c.before.queue-right.result ≡ addresses_below a.k (take a.queued a.queue.now) = c.before.queue-right.ensures ∙ refl in
     search (rules, no-queue)
 
 returns-3 : tie.Need-returns-3

@@ -5,7 +5,7 @@ use native.Mathlib.Omega.{arith}
 use borrow.Author.Rules.{rules}
 use lib.ListN.{length}
 use Rattle.rules.specs.Tables.{Table}
-use Rattle.rules.specs.Sound.{addressRight}
+use Rattle.rules.specs.Sound.{address_right}
 use Rattle.tallies.specs.Tally.{Tallied, Stored}
 use Rattle.counts.proofs.Blocks.{Waits, waits-first, waits-small, waits-next, Stand, stand-start, stand-on, stand-off, stand-end}
 use Rattle.counts.proofs.addresses_right.Statement.{statement}
@@ -14,7 +14,7 @@ use Rattle.counts.proofs.addresses_right.Tie as tie
 abbrev invariant-loop : tie.invariant-loop
 invariant-loop words w base n waiting names evens mothers k₀ i₀ k i =
     (i ≤ n) × Waits words (base + i) k
-    × ((ts : List Table) (ws : List ℕ) → Tallied base ws names evens → Stored base n ts mothers → Stand (addressRight w ts ws) words base (base + i) k)
+    × ((ts : List Table) (ws : List ℕ) → Tallied base ws names evens → Stored base n ts mothers → Stand (address_right w ts ws) words base (base + i) k)
 
 abbrev decreases-loop : tie.decreases-loop
 decreases-loop words w base n waiting names evens mothers k₀ i₀ k i = n - i

@@ -1,7 +1,7 @@
 -- The counters are filled from the queue and from the annex, and then compared with the runs.
 use mathlib.Core.Path.{refl}
 use borrow.Author.Rules.{rules}
-use Rattle.tallies.specs.Tally.{blockSize}
+use Rattle.tallies.specs.Tally.{block_size}
 use Rattle.tallies.proofs.Tallies.{tallied-none, none-raised}
 use Rattle.counts.proofs.block_right.Statement.{statement}
 use Rattle.counts.proofs.block_right.Tie as tie
@@ -19,7 +19,7 @@ slice-aggregate-tally-block-2 : tie.Need-slice-aggregate-tally-block-2
 slice-aggregate-tally-block-2 c = search rules
 
 tally-block-requires : tie.Need-tally-block-requires
-tally-block-requires c κs = (search rules, search rules, tallied-none blockSize _ refl)
+tally-block-requires c κs = (search rules, search rules, tallied-none block_size _ refl)
 
 cast-tally-mothers : tie.Need-overflow-cast-tally-mothers
 cast-tally-mothers c = search rules
@@ -28,7 +28,7 @@ slice-aggregate-tally-mothers : tie.Need-slice-aggregate-tally-mothers
 slice-aggregate-tally-mothers c = search rules
 
 tally-mothers-requires : tie.Need-tally-mothers-requires
-tally-mothers-requires c κs = (search rules, search rules, search rules, search rules, search rules, refl, none-raised blockSize)
+tally-mothers-requires c κs = (search rules, search rules, search rules, search rules, search rules, refl, none-raised block_size)
 
 slice-aggregate-addresses-right : tie.Need-slice-aggregate-addresses-right
 slice-aggregate-addresses-right c = search rules

@@ -3,14 +3,14 @@ use Prim.Native.Nat.{◌+◌, ◌%◌, ◌≤◌, ◌-◌}
 use mathlib.Core.Path.{◌≡◌}
 use native.Mathlib.Omega.{arith}
 use borrow.Author.Rules.{rules}
-use Rattle.tallies.specs.Tally.{blockSize}
-use Rattle.counts.specs.Blocks.{addressTest}
+use Rattle.tallies.specs.Tally.{block_size}
+use Rattle.counts.specs.Blocks.{address_test}
 use Rattle.counts.proofs.Blocks.{Stand, stand-carry, blocks_start, blocks-on, blocks-off, blocks_end}
 use Rattle.counts.proofs.counts_right.Statement.{statement}
 use Rattle.counts.proofs.counts_right.Tie as tie
 
 abbrev invariant-loop : tie.invariant-loop
-invariant-loop words w queue places annex len k₀ base₀ k base = (base % blockSize ≡ 0) × (base ≤ 1048576 + blockSize) × Stand (addressTest w places annex queue) words 0 base k
+invariant-loop words w queue places annex len k₀ base₀ k base = (base % block_size ≡ 0) × (base ≤ 1048576 + block_size) × Stand (address_test w places annex queue) words 0 base k
 
 abbrev decreases-loop : tie.decreases-loop
 decreases-loop words w queue places annex len k₀ base₀ k base = len - base

@@ -3,13 +3,13 @@ use mathlib.Core.Path.{◌≡◌}
 use Prim.Native.Nat.{◌+◌, ◌-◌, ◌≤◌}
 use borrow.Author.Rules.{rules}
 use lib.ListN.{length, drop}
-use Rattle.directory.specs.Places.{placesInUse}
+use Rattle.directory.specs.Places.{places_in_use}
 use Rattle.directory.proofs.Loops.{in-use-found, in-use-again, in-use-end}
 use Rattle.directory.proofs.places_in_use.Statement.{statement}
 use Rattle.directory.proofs.places_in_use.Tie as tie
 
 abbrev invariant-loop : tie.invariant-loop
-invariant-loop places i₀ i = (i ≤ 15) × (length (placesInUse places) ≡ i + length (placesInUse (drop i places)))
+invariant-loop places i₀ i = (i ≤ 15) × (length (places_in_use places) ≡ i + length (places_in_use (drop i places)))
 
 abbrev decreases-loop : tie.decreases-loop
 decreases-loop places i₀ i = 15 - i

@@ -4,14 +4,14 @@ use Prim.Native.Nat.{◌*◌, ◌-◌, ◌≤◌}
 use native.Mathlib.Omega.{arith}
 use borrow.Author.Rules.{rules}
 use lib.ListN.{take}
-use Rattle.directory.specs.Places.{wordsTaken}
+use Rattle.directory.specs.Places.{words_taken}
 use Rattle.directory.proofs.Laws.{in-use-most}
 use Rattle.directory.proofs.Loops.{words-start, words-again, words-end}
 use Rattle.directory.proofs.words_taken.Statement.{statement}
 use Rattle.directory.proofs.words_taken.Tie as tie
 
 abbrev invariant-loop : tie.invariant-loop
-invariant-loop n places words₀ next₀ words next = (n ≤ 15) × ((next ≤ n) × ((words ≡ wordsTaken (take next places)) × (words ≤ next * 1048576)))
+invariant-loop n places words₀ next₀ words next = (n ≤ 15) × ((next ≤ n) × ((words ≡ words_taken (take next places)) × (words ≤ next * 1048576)))
 
 abbrev decreases-loop : tie.decreases-loop
 decreases-loop n places words₀ next₀ words next = n - next

@@ -7,15 +7,15 @@ use lib.ListN.{length, take}
 use borrow.Author.Rules.{rules}
 use Rattle.layout.specs.Decode.{run_at}
 use Rattle.layout.proofs.Searches.{true-lt, false-le}
-use Rattle.arriving.specs.Arrivals.{ofRun}
+use Rattle.arriving.specs.Arrivals.{of_run}
 use Rattle.arriving.proofs.Loops.{run_short, run-start, run_end}
-use Rattle.doubling.specs.NewHashes.{newHash}
+use Rattle.doubling.specs.NewHashes.{new_hash}
 use Rattle.doubling.proofs.Loops.{count_yes, count_no}
 use Rattle.doubling.proofs.count_in.Statement.{statement}
 use Rattle.doubling.proofs.count_in.Tie as tie
 
 abbrev invariant-loop : tie.invariant-loop
-invariant-loop main c w n b f m₀ t₀ m t = (t ≤ n) × (t ≤ length (run_at main c)) × (m ≤ t) × ((k : ℕ) → m ≡ length (ofRun (newHash w k c) (take t (run_at main c))))
+invariant-loop main c w n b f m₀ t₀ m t = (t ≤ n) × (t ≤ length (run_at main c)) × (m ≤ t) × ((k : ℕ) → m ≡ length (of_run (new_hash w k c) (take t (run_at main c))))
 
 abbrev decreases-loop : tie.decreases-loop
 decreases-loop main c w n b f m₀ t₀ m t = n - t
@@ -44,7 +44,7 @@ returns : tie.Need-returns invariant-loop decreases-loop
 returns c =
     let a = c.before.before.before.before.before.before.args in
     let h = false-le _ _ _ c.before.entry-in-run.ensures.0 c.if1.false in
-    λ k. c.before.before.before.loop.invariant.3 k ∙ ap length (run_end (newHash a.w k a.c) (run_at a.main.now a.c) c.before.before.before.loop.t h)
+    λ k. c.before.before.before.loop.invariant.3 k ∙ ap length (run_end (new_hash a.w k a.c) (run_at a.main.now a.c) c.before.before.before.loop.t h)
 
 add-t : tie.Need-overflow-add-t invariant-loop decreases-loop
 add-t c = search rules
@@ -63,8 +63,8 @@ loop-again c =
       omega arith,
       ⊎_elim (λ x. omega arith) (λ x. omega arith) c.if2.branch,
       λ k. ⊎_elim
-          (λ x. subst (λ (m : ℕ). m ≡ length (ofRun (newHash a.w k a.c) (take (l.t + 1) run))) (sym x.1) (count_yes a.w k a.c _ _ run l.t l.m c.before.rest_of.ensures h e.1 (l.invariant.3 k) x.0.taken))
-          (λ x. subst (λ (m : ℕ). m ≡ length (ofRun (newHash a.w k a.c) (take (l.t + 1) run))) (sym x.1) (count_no a.w k a.c _ _ run l.t l.m c.before.rest_of.ensures h e.1 (l.invariant.3 k) x.0.left))
+          (λ x. subst (λ (m : ℕ). m ≡ length (of_run (new_hash a.w k a.c) (take (l.t + 1) run))) (sym x.1) (count_yes a.w k a.c _ _ run l.t l.m c.before.rest_of.ensures h e.1 (l.invariant.3 k) x.0.taken))
+          (λ x. subst (λ (m : ℕ). m ≡ length (of_run (new_hash a.w k a.c) (take (l.t + 1) run))) (sym x.1) (count_no a.w k a.c _ _ run l.t l.m c.before.rest_of.ensures h e.1 (l.invariant.3 k) x.0.left))
           c.if2.branch,
     )
 
@@ -73,7 +73,7 @@ returns-2 c =
     let a = c.before.before.before.before.args in
     let r = c.before.before.locate in
     let h : length (run_at a.main.now a.c) ≤ c.before.loop.t = omega (arith, run_short a.main.now a.c r.result.home r.result.from c.before.before.before.before.requires.0 r.ensures.3) in
-    λ k. c.before.loop.invariant.3 k ∙ ap length (run_end (newHash a.w k a.c) (run_at a.main.now a.c) c.before.loop.t h)
+    λ k. c.before.loop.invariant.3 k ∙ ap length (run_end (new_hash a.w k a.c) (run_at a.main.now a.c) c.before.loop.t h)
 
 pub count-in-spec : {M : Type 1} → statement M
 count-in-spec =

@@ -5,22 +5,22 @@ use native.Mathlib.Omega.{arith}
 use lib.ListN.{length, take}
 use borrow.Author.Rules.{rules}
 use Rattle.layout.specs.Decode.{decode}
-use Rattle.arriving.specs.Arrivals.{ofRuns}
+use Rattle.arriving.specs.Arrivals.{of_runs}
 use Rattle.arriving.proofs.Whole.{main-start, main-count}
-use Rattle.doubling.specs.NewHashes.{newHash}
+use Rattle.doubling.specs.NewHashes.{new_hash}
 use Rattle.doubling.proofs.Tabled.{new-few, new-all}
 use Rattle.doubling.proofs.count_new.Statement.{statement}
 use Rattle.doubling.proofs.count_new.Tie as tie
 
 abbrev invariant-loop : tie.invariant-loop
-invariant-loop main w n m₀ c₀ m c = (c ≤ n) × ((k : ℕ) → m ≡ length (ofRuns (newHash w k) 0 (take c (decode main))))
+invariant-loop main w n m₀ c₀ m c = (c ≤ n) × ((k : ℕ) → m ≡ length (of_runs (new_hash w k) 0 (take c (decode main))))
 
 abbrev decreases-loop : tie.decreases-loop
 decreases-loop main w n m₀ c₀ m c = n - c
 
 loop-holds : tie.Need-loop-init invariant-loop decreases-loop
 loop-holds c =
-    (omega arith, λ k. main-start (newHash c.before.args.w k) c.before.args.main.now)
+    (omega arith, λ k. main-start (new_hash c.before.args.w k) c.before.args.main.now)
 
 count-in-requires : tie.Need-count-in-requires invariant-loop decreases-loop
 count-in-requires c κs = search rules
@@ -42,7 +42,7 @@ loop-again c =
     let a = c.before.before.before.before.args in
     let l = c.before.before.loop in
     let h : l.c < length a.main.now = omega arith in
-    (omega arith, λ k. main-count (newHash a.w k) a.main.now l.c l.m _ h (l.invariant.1 k) (c.count-in.ensures k))
+    (omega arith, λ k. main-count (new_hash a.w k) a.main.now l.c l.m _ h (l.invariant.1 k) (c.count-in.ensures k))
 
 returns : tie.Need-returns invariant-loop decreases-loop
 returns c =

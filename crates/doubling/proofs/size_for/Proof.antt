@@ -2,13 +2,13 @@
 use mathlib.Core.Path.{◌≡◌}
 use Prim.Native.Nat.{◌-◌, ◌≤◌}
 use borrow.Author.Rules.{rules}
-use Rattle.rules.specs.Doubling.{sizeFrom, size_for}
+use Rattle.rules.specs.Doubling.{size_from, size_for}
 use Rattle.doubling.proofs.Loops.{size-stop, size-on, size-end}
 use Rattle.doubling.proofs.size_for.Statement.{statement}
 use Rattle.doubling.proofs.size_for.Tie as tie
 
 abbrev invariant-loop : tie.invariant-loop
-invariant-loop n s₀ s = (3 ≤ s) × (s ≤ 23) × (sizeFrom (23 - s) s n ≡ size_for n)
+invariant-loop n s₀ s = (3 ≤ s) × (s ≤ 23) × (size_from (23 - s) s n ≡ size_for n)
 
 abbrev decreases-loop : tie.decreases-loop
 decreases-loop n s₀ s = 23 - s

@@ -6,14 +6,14 @@ use lib.ListN.{length, take}
 use borrow.Author.Rules.{rules}
 use Rattle.layout.specs.Decode.{run_at}
 use Rattle.layout.proofs.Searches.{true-lt, false-le}
-use Rattle.arriving.specs.Arrivals.{Arrived, ofRun}
+use Rattle.arriving.specs.Arrivals.{Arrived, of_run}
 use Rattle.arriving.proofs.Loops.{run_short, arrive-start, arrive-again, arrive-end}
 use Rattle.doubling.specs.NewHashes.{stored}
 use Rattle.doubling.proofs.store_run.Statement.{statement}
 use Rattle.doubling.proofs.store_run.Tie as tie
 
 abbrev invariant-loop : tie.invariant-loop
-invariant-loop main part₀ k c w s n b f t₀ part t = (t ≤ n) × (t ≤ length (run_at main c)) × (length part ≡ length part₀) × Arrived part₀ part (ofRun (stored w k s c) (take t (run_at main c)))
+invariant-loop main part₀ k c w s n b f t₀ part t = (t ≤ n) × (t ≤ length (run_at main c)) × (length part ≡ length part₀) × Arrived part₀ part (of_run (stored w k s c) (take t (run_at main c)))
 
 abbrev decreases-loop : tie.decreases-loop
 decreases-loop main part₀ k c w s n b f t₀ part t = n - t

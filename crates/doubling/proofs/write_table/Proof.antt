@@ -5,7 +5,7 @@ use native.Mathlib.Omega.{arith}
 use lib.ListN.{length, take, replicate}
 use borrow.Author.Rules.{rules}
 use Rattle.layout.specs.Decode.{decode}
-use Rattle.arriving.specs.Arrivals.{Arrived, ofRuns}
+use Rattle.arriving.specs.Arrivals.{Arrived, of_runs}
 use Rattle.arriving.proofs.Whole.{main-none, main-arrive, main-end}
 use Rattle.doubling.specs.NewHashes.{stored}
 use Rattle.doubling.proofs.Tabled.{table_done}
@@ -13,7 +13,7 @@ use Rattle.doubling.proofs.write_table.Statement.{statement}
 use Rattle.doubling.proofs.write_table.Tie as tie
 
 abbrev invariant-loop : tie.invariant-loop
-invariant-loop main part₀ k w s n c₀ part c = (c ≤ n) × (length part ≡ 2 ^ s) × Arrived (replicate (2 ^ s) 0) part (ofRuns (stored w k s) 0 (take c (decode main)))
+invariant-loop main part₀ k w s n c₀ part c = (c ≤ n) × (length part ≡ 2 ^ s) × Arrived (replicate (2 ^ s) 0) part (of_runs (stored w k s) 0 (take c (decode main)))
 
 abbrev decreases-loop : tie.decreases-loop
 decreases-loop main part₀ k w s n c₀ part c = n - c

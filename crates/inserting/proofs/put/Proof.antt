@@ -1,4 +1,4 @@
--- `inserting::put` is `insertAt` on the circle begun at c: one law of the layout for each return.
+-- `inserting::put` is `insert_at` on the circle begun at c: one law of the layout for each return.
 use mathlib.Core.Path.{◌≡◌, sym, ap, ap₂, ◌∙◌}
 use Prim.Native.Nat.{ℕ, ◌+◌, ◌*◌}
 use native.Mathlib.Omega.{arith}

@@ -5,7 +5,7 @@ use Prim.Native.Nat.{ℕ}
 use contract.Running.{tables, tables_of}
 use denote.Triple.Spec.{triple_of}
 use denote.Triple.Table.{entered, cited}
-use Rattle.filter.specs.Contracts.{Rejuvenates}
+use Rattle.filter.specs.Promises.{Rejuvenates}
 use Rattle.filter.specs.Plain.{plain}
 use Rattle.filter.specs.declared.Record.{Record}
 use Rattle.filter.specs.declared.Answer.{Answer}

@@ -4,13 +4,13 @@ use borrow.Author.Rules.{rules}
 use lib.ListN.{take}
 use lib.Dec.{T}
 use Rattle.lists.specs.Lists.{every}
-use Rattle.directory.specs.Places.{placesInUse, other}
+use Rattle.directory.specs.Places.{places_in_use, other}
 use Rattle.places.proofs.Loops.{place-start, place_found, place-again, place_none}
 use Rattle.places.proofs.place_of.Statement.{statement}
 use Rattle.places.proofs.place_of.Tie as tie
 
 abbrev invariant-loop : tie.invariant-loop
-invariant-loop b places n i₀ i = (i ≤ n) × T (every (other b) (take i (placesInUse places)))
+invariant-loop b places n i₀ i = (i ≤ n) × T (every (other b) (take i (places_in_use places)))
 
 abbrev decreases-loop : tie.decreases-loop
 decreases-loop b places n i₀ i = n - i

@@ -1,13 +1,13 @@
 -- `trimmed` drops one empty table after the other: what is left of the tables in use are the first i of them, and trimming these is trimming all.
 use Prim.Native.Nat.{◌≤◌}
 use borrow.Author.Rules.{rules}
-use Rattle.directory.specs.Places.{placesInUse}
+use Rattle.directory.specs.Places.{places_in_use}
 use Rattle.places.proofs.Loops.{Left, left-start, left-stop, left-again, left_end}
 use Rattle.places.proofs.trimmed.Statement.{statement}
 use Rattle.places.proofs.trimmed.Tie as tie
 
 abbrev invariant-loop : tie.invariant-loop
-invariant-loop places₀ i₀ places i = (i ≤ 15) × Left (placesInUse places₀) places i
+invariant-loop places₀ i₀ places i = (i ≤ 15) × Left (places_in_use places₀) places i
 
 abbrev decreases-loop : tie.decreases-loop
 decreases-loop places₀ i₀ places i = i

@@ -5,7 +5,7 @@ use native.Mathlib.Omega.{arith}
 use lib.ListN.{length, get_or, length-set}
 use lib.Seq.{get_or-set_other}
 use Rattle.layout.specs.Decode.{turn, entry}
-use Rattle.layout.specs.Moves.{closer, drawing, isStart, wrap}
+use Rattle.layout.specs.Moves.{closer, drawing, is_start, wrap}
 use Rattle.layout.proofs.Draws.{draw-last, draw-stop, draw-on}
 use Rattle.layout.proofs.Wraps.{wrap-next, wrap-other}
 use borrow.Author.Rules.{rules}
@@ -94,7 +94,7 @@ loop-again c =
       sym (get_or-set_other l.ws l.i j c.before.closer-word.result 0 (wrap-other _ l.i j l.invariant.3 (omega arith) next.ensures.0)),
       draw-on l.ws s.args.c l.q l.k _ l.i s.requires.0 l.invariant.0 l.invariant.1 l.invariant.4 j more ej c.before.before.if1.false _ _
           (c.before.closer-word.ensures ∙ ap (closer (entry v) l.q) l.invariant.5)
-          (c.still-waiting.ensures.0 ∙ ap (λ (w : ℕ). l.q + w % 2 - isStart (entry v)) l.invariant.5)
+          (c.still-waiting.ensures.0 ∙ ap (λ (w : ℕ). l.q + w % 2 - is_start (entry v)) l.invariant.5)
           ∙ l.invariant.6,
     )
 

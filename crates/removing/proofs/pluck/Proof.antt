@@ -1,4 +1,4 @@
--- `removing::pluck` is `removeAt` on the circle begun at c: one law of the layout for each return.
+-- `removing::pluck` is `remove_at` on the circle begun at c: one law of the layout for each return.
 use mathlib.Core.Path.{refl, ap, ap₂, ◌∙◌}
 use Prim.Native.Nat.{ℕ, ◌+◌}
 use native.Mathlib.Omega.{arith}

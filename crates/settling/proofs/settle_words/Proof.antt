@@ -4,9 +4,9 @@ use Prim.Native.Nat.{◌-◌, ◌≤◌}
 use native.Mathlib.Omega.{arith}
 use lib.ListN.{length, take, drop}
 use borrow.Author.Rules.{rules}
-use Rattle.directory.specs.Places.{placesInUse, wordsTaken}
-use Rattle.rules.specs.Settling.{settleAll}
-use Rattle.settling.specs.State.{heldIn, Holding}
+use Rattle.directory.specs.Places.{places_in_use, words_taken}
+use Rattle.rules.specs.Settling.{settle_all}
+use Rattle.settling.specs.State.{held_in, Holding}
 use Rattle.settling.proofs.Words.{words-start, words-next, words-end}
 use Rattle.settling.proofs.settle_words.Statement.{statement}
 use Rattle.settling.proofs.settle_words.Tie as tie
@@ -14,7 +14,7 @@ use Rattle.settling.proofs.settle_words.Tie as tie
 abbrev invariant-loop : tie.invariant-loop
 invariant-loop main₀ queue annex₀ k w used n left₀ dir₀ next₀ main annex left dir next =
     (next ≤ n) × (length main ≡ length main₀) × (length annex ≡ length annex₀)
-    × Holding (settleAll w (take next queue) (heldIn main₀ annex₀ dir₀)) (drop (wordsTaken (placesInUse dir₀)) annex₀) k w left main annex dir
+    × Holding (settle_all w (take next queue) (held_in main₀ annex₀ dir₀)) (drop (words_taken (places_in_use dir₀)) annex₀) k w left main annex dir
 
 abbrev decreases-loop : tie.decreases-loop
 decreases-loop main₀ queue annex₀ k w used n left₀ dir₀ next₀ main annex left dir next = n - next

@@ -1,7 +1,7 @@
 -- The entry that encodes the hash's bits, which are below the power of their length.
 use mathlib.Core.Path.{◌∙◌, ap}
 use borrow.Author.Rules.{rules}
-use Rattle.slots.specs.Payload.{pay, freshPayload}
+use Rattle.slots.specs.Payload.{pay, fresh_payload}
 use Rattle.slots.proofs.fresh.Statement.{statement}
 use Rattle.slots.proofs.fresh.Tie as tie
 
@@ -12,7 +12,7 @@ encode-requires : tie.Need-encode-requires
 encode-requires c κs = search rules
 
 returns : tie.Need-returns
-unfolding freshPayload
+unfolding fresh_payload
 returns c =
     let a = c.before.before.args in
     c.encode.ensures ∙ ap (pay a.w a.l) c.before.hash-bits.ensures.0

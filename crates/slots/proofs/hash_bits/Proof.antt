@@ -3,7 +3,7 @@ use mathlib.Core.Path.{refl}
 use native.Mathlib.Omega.{arith}
 use lib.Pow.{pow_pos, pow_mono}
 use borrow.Author.Rules.{rules}
-use Rattle.slots.specs.Payload.{hashBits}
+use Rattle.slots.specs.Payload.{hash_bits}
 use Rattle.slots.proofs.PayloadLaws.{hash-bits-lt}
 use Rattle.slots.proofs.Shift.{one_shl}
 use Rattle.slots.proofs.hash_bits.Statement.{statement}
@@ -19,13 +19,13 @@ rem-result : tie.Need-nonzero-rem-result
 rem-result c = rw (one_shl 64 c.args.l (omega arith)) (pow_pos c.args.l)
 
 cast-result : tie.Need-overflow-cast-result
-unfolding hashBits
+unfolding hash_bits
 cast-result c =
     rw (one_shl 64 c.args.l (omega arith))
     (record { fits = omega (arith, hash-bits-lt c.args.hash c.args.k c.args.l, pow_mono {i = c.args.l} {j = 26} (omega arith)) })
 
 returns : tie.Need-returns
-unfolding hashBits
+unfolding hash_bits
 returns c = rw (one_shl 64 c.args.l (omega arith)) (refl, hash-bits-lt c.args.hash c.args.k c.args.l)
 
 pub hash-bits-spec : {M : Type 1} → statement M

@@ -1,4 +1,4 @@
--- The spans of an annex table are those of `annexEntry`, by the law of the spans.
+-- The spans of an annex table are those of `annex_entry`, by the law of the spans.
 use native.Mathlib.Omega.{arith}
 use Rattle.sound.proofs.Ranges.{power_le, annex-made}
 use borrow.Author.Rules.{rules}

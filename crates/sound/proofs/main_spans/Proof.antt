@@ -1,4 +1,4 @@
--- The spans of a main table are those of `mainEntry`, by the law of the spans, with k below 6 and not.
+-- The spans of a main table are those of `main_entry`, by the law of the spans, with k below 6 and not.
 use native.Mathlib.Omega.{arith}
 use Rattle.sound.proofs.Ranges.{power_le, power-low, main-short, main-long}
 use borrow.Author.Rules.{rules}

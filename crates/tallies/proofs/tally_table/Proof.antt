@@ -6,7 +6,7 @@ use borrow.Author.Rules.{rules}
 use lib.ListN.{length}
 use Rattle.rules.specs.Tables.{matching}
 use Rattle.annex.specs.Stored.{table_of}
-use Rattle.sound.specs.Reading.{readAt}
+use Rattle.sound.specs.Reading.{read_at}
 use Rattle.tallies.specs.Tally.{Raised}
 use Rattle.tallies.proofs.Sums.{room-20, room-1}
 use Rattle.tallies.proofs.Walks.{Reached, reached-first, reached-in, reached-small, reached-count, reached-anew, reached-next, few-found, raised-none, raised-in, raised-small, raised-one}
@@ -96,7 +96,7 @@ loop-again c =
     let r = c.before.before.before.before.before.before.read-run.ensures in
     let in_block : l.i < length a.mothers.now = omega (arith, start.requires.7) in
     let next : a.base + (l.i + 1) ≡ suc (a.base + l.i) = omega arith in
-    let ek : c.before.before.before.onward.result ≡ l.k + length (readAt a.part.now l.a l.k) - 1 = omega (arith, c.before.before.before.onward.ensures, r.size) in (
+    let ek : c.before.before.before.onward.result ≡ l.k + length (read_at a.part.now l.a l.k) - 1 = omega (arith, c.before.before.before.onward.ensures, r.size) in (
       omega arith,
       reached-anew _ _ _ start.requires.4 start.requires.3 _ _ _ _ l.invariant.1 _ _ _ next c.before.before.around.ensures.0 ek _ c.hash-entry2.ensures,
       raised-one _ _ _ l.i l.mothers l.invariant.2 in_block _ _ (reached-count _ _ _ start.requires.4 start.requires.3 _ _ _ _ l.invariant.1 _ r.voids) refl,
@@ -113,7 +113,7 @@ loop-again-2 c =
     let r = c.before.before.before.before.before.read-run.ensures in
     let in_block : l.i < length a.mothers.now = omega (arith, start.requires.7) in
     let next : a.base + (l.i + 1) ≡ suc (a.base + l.i) = omega arith in
-    let ek : c.before.before.onward.result ≡ l.k + length (readAt a.part.now l.a l.k) - 1 = omega (arith, c.before.before.onward.ensures, r.size) in (
+    let ek : c.before.before.onward.result ≡ l.k + length (read_at a.part.now l.a l.k) - 1 = omega (arith, c.before.before.onward.ensures, r.size) in (
       omega arith,
       reached-next _ _ _ start.requires.4 start.requires.3 _ _ _ _ l.invariant.1 _ _ _ next c.before.around.ensures.0 ek start.requires.1 c.if1.false,
       raised-one _ _ _ l.i l.mothers l.invariant.2 in_block _ _ (reached-count _ _ _ start.requires.4 start.requires.3 _ _ _ _ l.invariant.1 _ r.voids) refl,

@@ -1,7 +1,7 @@
 -- The three lengths are compared with what the record uses.
 use native.Mathlib.Omega.{arith}
 use Rattle.keeps.proofs.Bounds.{bounds}
-use Rattle.rules.specs.Refusals.{slicesRight}
+use Rattle.rules.specs.Refusals.{slices_right}
 use Rattle.filter.specs.Plain.{plain}
 use borrow.Author.Rules.{rules}
 use Rattle.filter.proofs.Record.lent_right.Statement.{statement}
@@ -17,7 +17,7 @@ cast-queued : tie.Need-overflow-cast-queued
 cast-queued c = search rules
 
 returns : tie.Need-returns
-unfolding slicesRight
+unfolding slices_right
 returns c = rw (c.before.pow2.ensures.0, c.before.before.requires.1)
 
 pub lent-right-spec : {M : Type 1} → statement M

@@ -2,16 +2,16 @@
 use Rattle.std.specs.Prelude.{◌≡◌, Bool, true, cond, List, [], ◌∷◌, ℕ, suc, ◌<◌, T, length}
 use Rattle.slots.specs.Payload.{length_of}
 use Rattle.rules.specs.Record.{Filter, change, fresh, width}
-use Rattle.rules.specs.Refusals.{refusal, recordRight, slicesRight}
+use Rattle.rules.specs.Refusals.{refusal, record_right, slices_right}
 use Rattle.rules.specs.Sound.{sound}
 use Rattle.rules.specs.Calls.{Outcome, refused, start}
-use Rattle.rules.specs.Quick.{home, matched, best, freshEntry, queryNumber, insert, insertNumber, delete, rejuvenate}
-use Rattle.rules.specs.Slow.{audit, settle, hashes, room_for, doubleNumber, double, secondMain}
+use Rattle.rules.specs.Quick.{home, matched, best, fresh_entry, query_number, insert, insert_number, delete, rejuvenate}
+use Rattle.rules.specs.Slow.{audit, settle, hashes, room_for, double_number, double, second_main}
 
 -- the number as far as 2 and 3 go, by the record and the lengths of main, queue and annex
-unfoldable pub firstNumber : Filter → ℕ → ℕ → ℕ → ℕ
-firstNumber r main queue annex =
-    refusal (record { right = recordRight r; number = 2 } ∷ record { right = slicesRight r main queue annex; number = 3 } ∷ [])
+unfoldable pub first_number : Filter → ℕ → ℕ → ℕ → ℕ
+first_number r main queue annex =
+    refusal (record { right = record_right r; number = 2 } ∷ record { right = slices_right r main queue annex; number = 3 } ∷ [])
 
 -- number, record and words are those of the outcome
 pub record Leaves (o : Outcome) (number : ℕ) (rec : Filter) (main queue annex : List ℕ) : Type 0 where
@@ -42,13 +42,13 @@ abbrev pub Starts : ℕ → ℕ → ℕ → List ℕ → List ℕ → List ℕ �
 Starts power f regime main queue annex = Leaves (start power f regime main queue annex)
 
 abbrev pub Inserts : Filter → List ℕ → List ℕ → List ℕ → ℕ → ℕ → Filter → List ℕ → List ℕ → List ℕ → Type 0
-Inserts r main queue annex h = Quick (insert r main queue annex h) (insertNumber r main queue annex) (sound r main queue annex) r main queue annex
+Inserts r main queue annex h = Quick (insert r main queue annex h) (insert_number r main queue annex) (sound r main queue annex) r main queue annex
 
 abbrev pub Deletes : Filter → List ℕ → List ℕ → List ℕ → ℕ → ℕ → Filter → List ℕ → List ℕ → List ℕ → Type 0
-Deletes r main queue annex h = Quick (delete r main queue annex h) (queryNumber r main queue annex) (sound r main queue annex) r main queue annex
+Deletes r main queue annex h = Quick (delete r main queue annex h) (query_number r main queue annex) (sound r main queue annex) r main queue annex
 
 abbrev pub Rejuvenates : Filter → List ℕ → List ℕ → List ℕ → ℕ → ℕ → Filter → List ℕ → List ℕ → List ℕ → Type 0
-Rejuvenates r main queue annex h = Quick (rejuvenate r main queue annex h) (queryNumber r main queue annex) (sound r main queue annex) r main queue annex
+Rejuvenates r main queue annex h = Quick (rejuvenate r main queue annex h) (query_number r main queue annex) (sound r main queue annex) r main queue annex
 
 -- Audit changes nothing, and answers its number
 abbrev pub Audits : Filter → List ℕ → List ℕ → List ℕ → ℕ → Filter → List ℕ → List ℕ → List ℕ → Type 0
@@ -60,13 +60,13 @@ Settles r main queue annex = Leaves (settle r main queue annex)
 -- Double is lent a second main, of which it leaves `second'`
 pub record Doubles (r : Filter) (main queue annex second : List ℕ) (number : ℕ) (rec' : Filter) (main' queue' annex' second' : List ℕ) : Type 0 where
   pub left : Leaves (double r main queue annex (length second)) number rec' main' queue' annex'
-  pub second_is : second' ≡ secondMain r main queue annex second
+  pub second_is : second' ≡ second_main r main queue annex second
 
 -- ---- what holds between the parts of Delete and of Rejuvenate
 
 -- what Delete and Rejuvenate have found when they come to change a run: 2 and 3 are not given, c is the canonical slot of h, and p is its longest match
 pub record Chosen (r : Filter) (main queue annex : List ℕ) (h c p : ℕ) : Type 0 where
-  pub lent : 0 ≡ firstNumber r (length main) (length queue) (length annex)
+  pub lent : 0 ≡ first_number r (length main) (length queue) (length annex)
   pub slot : c ≡ home r h
   pub some : matched r main h ≡ true
   pub entry : p ≡ best r main h
@@ -74,12 +74,12 @@ pub record Chosen (r : Filter) (main queue annex : List ℕ) (h c p : ℕ) : Typ
 -- .. and that Rejuvenate makes a fresh entry of an entry shorter than fresh ones
 pub record Renewing (r : Filter) (h p q : ℕ) : Type 0 where
   pub shorter : length_of (width r) p < fresh r
-  pub becomes : q ≡ freshEntry r h
+  pub becomes : q ≡ fresh_entry r h
 
 -- Double's number before the annex is asked for room: a refusal is the definition's, and where there is none only 10 is left
 pub record BeforeRoom (r : Filter) (main queue annex : List ℕ) (second number : ℕ) : Type 0 where
-  pub refused : (number ≡ 0 → ⊥) → number ≡ doubleNumber r main queue annex second
-  pub right : number ≡ 0 → T (recordRight r)
+  pub refused : (number ≡ 0 → ⊥) → number ≡ double_number r main queue annex second
+  pub right : number ≡ 0 → T (record_right r)
   pub low : number ≡ 0 → r.k < 20
   pub accepted : number ≡ 0 → audit r main queue annex ≡ 0
-  pub room : number ≡ 0 → (b : Bool) → b ≡ room_for r main queue annex (hashes r main queue annex) → doubleNumber r main queue annex second ≡ cond b 0 10
+  pub room : number ≡ 0 → (b : Bool) → b ≡ room_for r main queue annex (hashes r main queue annex) → double_number r main queue annex second ≡ cond b 0 10
