@@ -2,9 +2,10 @@
 """Brings this repository's own names to snake case: placesInUse becomes places_in_use, getD-half becomes get_or-half.
 
 usage: python3 tools/spell.py            at the top of the repository, once, after port.py
+       python3 tools/spell.py --fields   its second half alone: the dashes of records' fields
        python3 tools/spell.py --pages    the names in the pages of docs/, README.md, and the must-fail edits
 
-A name is turned if it begins with a small letter and a part of it has a capital behind a small letter or a digit. Types, modules and constructors
+A field of a record has underscores for dashes, unless the name that it would get stands for another thing. Any other name is turned if it begins with a small letter and a part of it has a capital behind a small letter or a digit. Types, modules and constructors
 begin with a capital and stay. Names in src/ outside clauses have none such, so what the code does is not touched.
 Where a turned name stands already for another thing, that one is renamed first (FIRST). A Rust function and the definition that its contract cites may
 share a name, as `placesInUse` and `places_in_use` then do. The file filter/specs/Contracts.antt becomes Promises.antt, since the kit makes a module of that name.
@@ -14,8 +15,12 @@ import os
 import re
 import sys
 
+WHOLE = re.compile(r"[^\W\d][\w'₀-₉]*(?:-[\w']+)*")
+RECORD = re.compile(r"(?m)^(?:pub )?record [^\n]*\n((?:[ \t]+[^\n]*\n|\n)*)")
+FIELD = re.compile(r"(?m)^\s+(?:pub )?([^\W\d][\w']*(?:-[\w']+)+)\s*:")
 NAME = re.compile(r"(?<![\w'-])[a-z][\w']*(?:-[\w']+)*")
-PARTS = {"getD": "get_or"}
+# xxHash is the name of a library that the pages speak of
+PARTS = {"getD": "get_or", "xxHash": "xxHash"}
 # folder, a name that stands in the way, its new name
 FIRST = [("crates/keeps", "in_use", "places_in_use-tables")]
 MOVED = [("crates/filter/specs/Contracts.antt", "crates/filter/specs/Promises.antt", "crates/filter", "Contracts", "Promises")]
@@ -46,8 +51,39 @@ def word(name):
     return re.compile(r"(?<![\w'-])" + re.escape(name) + r"(?![\w'-])")
 
 
+def fields():
+    """The fields of records that have a dash, and whose name with underscores is free."""
+    found, taken = set(), set()
+    for path in files((".antt", ".rt"), "crates"):
+        with open(path, encoding="utf-8") as f:
+            text = re.sub(r"--.*|//.*", "", f.read())
+        taken.update(WHOLE.findall(text))
+        if path.endswith(".antt"):
+            for block in RECORD.findall(text):
+                found.update(FIELD.findall(block))
+    return sorted(name for name in found if name.replace("-", "_") not in taken)
+
+
+def turn_fields():
+    names = fields()
+    each = re.compile(r"(?<![\w'-])(?:" + "|".join(map(re.escape, names)) + r")(?![\w'-])") if names else None
+    count = 0
+    for path in files((".antt", ".rt", ".md"), "crates", "docs"):
+        with open(path, encoding="utf-8") as f:
+            text = f.read()
+        new = each.sub(lambda m: m[0].replace("-", "_"), text) if each else text
+        if new != text:
+            count += 1
+            with open(path, "w", encoding="utf-8") as f:
+                f.write(new)
+    print(f"{len(names)} fields in {count} files")
+
+
 def main(argv):
     pages = "--pages" in argv
+    if "--fields" in argv:
+        turn_fields()
+        return 0
     if not pages:
         for old, new, _, _, _ in MOVED:
             if os.path.exists(old):
@@ -72,6 +108,8 @@ def main(argv):
             with open(path, "w", encoding="utf-8") as f:
                 f.write(new)
     print(f"{count} files changed")
+    if not pages:
+        turn_fields()
     return 0
 
 

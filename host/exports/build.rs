@@ -1,4 +1,4 @@
-// Links the archive that `rt staticlib kjarnhul` writes.
+// Links the archive that `host/archive kjarnhul` makes.
 fn main() {
     let root = std::env::var("CARGO_MANIFEST_DIR").expect("cargo sets it") + "/../..";
     println!("cargo:rustc-link-search=native={root}/target/staticlib");

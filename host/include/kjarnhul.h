@@ -71,7 +71,7 @@ extern "C" {
 ** 0 is success. Any number from 2 on is a refusal: the call then has changed no word and nothing
 ** of the record. Where several refusals apply, a call gives the first of those that are listed
 ** with it, in the order in which they are listed. kj_query and kj_query_bytes answer KJ_NO or
-** KJ_YES.
+** KJ_YES, and kj_width answers a width.
 */
 #define KJ_OK 0        /* it is done */
 #define KJ_NO 0        /* no: the hash is not held */
@@ -262,12 +262,22 @@ uint32_t kj_double(kj_filter *filter, uint32_t *main, size_t main_words, uint32_
                    size_t new_main_words);
 
 /*
+** WIDTH
+**
+** The width of payloads: what kj_query_bytes takes besides k. It is fingerprint + 1 + extra, where
+** extra is 0 in the fixed regime, and in the widening regime goes by k - start_power, from 0 on:
+** 0 2 4 4 6 6 6 6 8 8 8 8 8 8 8 8 10 10. It changes by kj_double and kj_start only. Writes nothing.
+**
+**   4 to 26       the width
+**   0             the record is out of range: where other calls give KJ_RECORD
+*/
+uint32_t kj_width(const kj_filter *filter);
+
+/*
 ** QUERY ON BYTES
 **
 ** For a front page that has main as bytes, four to a slot, the lowest first, and no record. w is
-** the width of payloads: fingerprint + 1 + extra, where extra is 0 in the fixed regime, and in
-** the widening regime goes by k - start_power, from 0 on: 0 2 4 4 6 6 6 6 8 8 8 8 8 8 8 8 10 10.
-** Writes nothing.
+** the width of payloads, which kj_width gives. Writes nothing.
 **
 **   KJ_NO         no entry matches: the hash is not held
 **   KJ_YES        an entry matches: the hash may be held

@@ -31,8 +31,8 @@ void front_show(front *of, const keeper *from) {
   of->bytes = bytes;
   of->length = bytes ? 4 * from->main_words : 0;
   of->k = from->filter.k;
-  of->width = keeper_width(&from->filter);
-  of->believed = bytes != NULL;
+  of->width = kj_width(&from->filter);
+  of->believed = bytes != NULL && of->width != 0;
   pthread_rwlock_unlock(&of->lock);
   free(old);
 }

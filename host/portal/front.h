@@ -18,7 +18,8 @@ void front_open(front *of);
 void front_close(front *of);
 
 /* Makes the bytes of the filter that a keeper has, then puts them in place of the old ones, and
-** believes them. Without memory for them nothing is believed any more. */
+** believes them. Without memory for them, or where the record is out of range and so has no
+** width, nothing is believed any more. */
 void front_show(front *of, const keeper *from);
 
 /* Believes no answer until the next front_show. */

@@ -97,9 +97,3 @@ uint32_t keeper_delete(keeper *of, uint64_t hash) {
     number = lend(&of->queue, &of->queue_words, 2 * of->queue_words) ? KJ_OK : KEEPER_MEMORY;
   return number == KJ_OK ? kj_delete(&of->filter, LENT(of), hash) : number;
 }
-
-uint32_t keeper_width(const kj_filter *filter) {
-  static const uint8_t extra[] = {0, 2, 4, 4, 6, 6, 6, 6, 8, 8, 8, 8, 8, 8, 8, 8, 10, 10};
-  uint32_t widened = filter->regime == KJ_REGIME_WIDENING;
-  return filter->fingerprint + 1 + widened * extra[filter->k - filter->start_power];
-}

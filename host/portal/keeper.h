@@ -34,7 +34,4 @@ uint32_t keeper_night(keeper *of);
 
 void keeper_drop(keeper *of);
 
-/* The width of payloads, as kj_query_bytes asks for it. */
-uint32_t keeper_width(const kj_filter *filter);
-
 #endif

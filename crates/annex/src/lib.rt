@@ -1,3 +1,5 @@
+#![tactic(auto)]
+
 // The stored mother hashes: the longest that matches an address, and its removal.
 ghost use Rattle.std.specs.Prelude.{◌≡◌, ◌-◌, ◌%◌, ◌^◌, ◌≤◌, ◌<◌, length};
 ghost use Rattle.rules.specs.Tables.{hash_entry, matching};

@@ -1,3 +1,5 @@
+#![tactic(auto)]
+
 // The second main of Double: what each entry gives arrives at one address or at both.
 ghost use Rattle.std.specs.Prelude.{◌≡◌, ◌+◌, ◌-◌, ◌/◌, ◌%◌, ◌^◌, ◌≤◌, ◌<◌, T, length};
 ghost use Rattle.lists.specs.Runs.{rising, total};

@@ -1,3 +1,5 @@
+#![tactic(auto)]
+
 // The audit: the parts of soundness together.
 ghost use Rattle.std.specs.Prelude.{◌≡◌, ◌-◌, ◌^◌, ◌≤◌, ◌<◌, T, length};
 ghost use Rattle.slots.specs.Numbers.{limit};

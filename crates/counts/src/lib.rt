@@ -1,3 +1,5 @@
+#![tactic(auto)]
+
 // The audit of the counts: tombstones and voids of every address against queue words and mother hashes.
 ghost use Rattle.std.specs.Prelude.{◌≡◌, ◌&&◌, List, ℕ, ◌+◌, ◌-◌, ◌%◌, ◌≤◌, ◌<◌, T, eqb, length};
 ghost use Rattle.lists.specs.Runs.{count};
@@ -21,7 +23,7 @@ fn less(a: u32, b: u32) -> u32
     0
 }
 
-#[derive(Drop)]
+#[derive(Clone, Copy)]
 pub struct Checked {
     pub good: bool,
     pub carry: usize,

@@ -25,7 +25,7 @@ use Rattle.demands.specs.Results.{Starts, Inserts, Deletes, Rejuvenates, Settles
 module _ (r : Filter) (main queue annex : List ℕ) where
   quick : (p : Outcome) (first : ℕ) (s : Bool) (o : Outcome) → Quick p first s r main queue annex o.number o.rec o.main o.queue o.annex → (o.number ≡ 0 → ⊥) → Nothing r main queue annex o
   quick p first s o q ne =
-      record { same-record = q.refused-record ne; same-main = q.refused-main ne; same_queue = q.refused-queue ne; same-annex = q.kept-annex }
+      record { same_record = q.refused_record ne; same_main = q.refused_main ne; same_queue = q.refused_queue ne; same_annex = q.kept_annex }
 
   pub insert-refused : (h : ℕ) (o : Outcome) → Inserts r main queue annex h o → (o.number ≡ 0 → ⊥) → Nothing r main queue annex o
   insert-refused h o = quick _ _ _ o
@@ -40,10 +40,10 @@ module _ (r : Filter) (main queue annex : List ℕ) where
   settle-refused-nothing o l ne =
       let u = settle-refused r main queue annex (λ z. ne (l.number_is ∙ z)) in
       record {
-        same-record = l.rec-is ∙ u.same-record;
-        same-main = l.main-is ∙ u.same-main;
-        same_queue = l.queue-is ∙ u.same_queue;
-        same-annex = l.annex-is ∙ u.same-annex;
+        same_record = l.rec_is ∙ u.same_record;
+        same_main = l.main_is ∙ u.same_main;
+        same_queue = l.queue_is ∙ u.same_queue;
+        same_annex = l.annex_is ∙ u.same_annex;
       }
 
   pub double-refused-nothing : (second : List ℕ) (o : Outcome) (second' : List ℕ) → Doubles r main queue annex second o second' → (o.number ≡ 0 → ⊥)
@@ -53,10 +53,10 @@ module _ (r : Filter) (main queue annex : List ℕ) where
       let z : (double r main queue annex (length second)).number ≡ 0 → ⊥ = λ z. ne (l.number_is ∙ z) in
       let u = double-refused r main queue annex (length second) z in (
         record {
-          same-record = l.rec-is ∙ u.same-record;
-          same-main = l.main-is ∙ u.same-main;
-          same_queue = l.queue-is ∙ u.same_queue;
-          same-annex = l.annex-is ∙ u.same-annex;
+          same_record = l.rec_is ∙ u.same_record;
+          same_main = l.main_is ∙ u.same_main;
+          same_queue = l.queue_is ∙ u.same_queue;
+          same_annex = l.annex_is ∙ u.same_annex;
         },
         d.second_is ∙ second-refused r main queue annex second z,
       )
@@ -70,10 +70,10 @@ start-refused power f regime main queue annex o l ne = go (start_number power f 
     go (suc n) e =
         unfold start give refused in
         record {
-          same-record = l.rec-is ∙ rw (e, give);
-          same-main = l.main-is ∙ rw (e, give);
-          same_queue = l.queue-is ∙ rw (e, give);
-          same-annex = l.annex-is ∙ rw (e, give);
+          same_record = l.rec_is ∙ rw (e, give);
+          same_main = l.main_is ∙ rw (e, give);
+          same_queue = l.queue_is ∙ rw (e, give);
+          same_annex = l.annex_is ∙ rw (e, give);
         }
 
 -- ---- "Bad numbers, lengths .. are refused by a listed number": 2 and 3 come first in every call on a filter, whatever the words
@@ -136,4 +136,4 @@ module _ (r : Filter) (main queue annex : List ℕ) where
   -- "the four quick calls .. write only their own table and queue": on any memory annex and settings stay (Query's contract says that it writes nothing)
   pub quick-writes : (p : Outcome) (first : ℕ) (s : Bool) (o : Outcome) → Quick p first s r main queue annex o.number o.rec o.main o.queue o.annex
       → (o.annex ≡ annex) × (o.rec ≡ change r r.k o.rec.used o.rec.queued r.dir)
-  quick-writes p first s o q = (q.kept-annex, q.kept-settings)
+  quick-writes p first s o q = (q.kept_annex, q.kept_settings)

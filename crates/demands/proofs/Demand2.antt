@@ -27,20 +27,20 @@ use Rattle.demands.specs.Results.{Starts, Inserts, Deletes, Rejuvenates, Settles
 
 -- an outcome whose five parts are those of another is that one
 pub same : (o p : Outcome) → Leaves p o.number o.rec o.main o.queue o.annex → o ≡ p
-same o p l = λ i. record { number = l.number_is i; rec = l.rec-is i; main = l.main-is i; queue = l.queue-is i; annex = l.annex-is i }
+same o p l = λ i. record { number = l.number_is i; rec = l.rec_is i; main = l.main_is i; queue = l.queue_is i; annex = l.annex_is i }
 
 -- ---- "the slot words, queue, annex and record after each call, and its answer, are those of the paper's rules"
 
 module _ (r : Filter) (main queue annex : List ℕ) where
   -- the quick calls, on memory that the audit accepts (the contracts of Query and Audit are the rule itself, on any memory)
   pub insert-by-rule : audit r main queue annex ≡ 0 → (h : ℕ) (o : Outcome) → Inserts r main queue annex h o → o ≡ insert r main queue annex h
-  insert-by-rule a h o q = same o _ (q.determined (audit-good r main queue annex a).is-sound)
+  insert-by-rule a h o q = same o _ (q.determined (audit-good r main queue annex a).is_sound)
 
   pub delete-by-rule : audit r main queue annex ≡ 0 → (h : ℕ) (o : Outcome) → Deletes r main queue annex h o → o ≡ delete r main queue annex h
-  delete-by-rule a h o q = same o _ (q.determined (audit-good r main queue annex a).is-sound)
+  delete-by-rule a h o q = same o _ (q.determined (audit-good r main queue annex a).is_sound)
 
   pub rejuvenate-by-rule : audit r main queue annex ≡ 0 → (h : ℕ) (o : Outcome) → Rejuvenates r main queue annex h o → o ≡ rejuvenate r main queue annex h
-  rejuvenate-by-rule a h o q = same o _ (q.determined (audit-good r main queue annex a).is-sound)
+  rejuvenate-by-rule a h o q = same o _ (q.determined (audit-good r main queue annex a).is_sound)
 
   -- the slow calls, on any memory
   pub settle-by-rule : (o : Outcome) → Settles r main queue annex o → o ≡ settle r main queue annex
@@ -60,7 +60,7 @@ bytes-accepted : (r : Filter) (main queue annex bytes : List ℕ) → query_numb
 unfolding query_number bytes_number refusal
 bytes-accepted r main queue annex bytes z l =
     let b = bounds r (asked-zero r main queue annex [] z).0 in
-    rw (le-leb 3 r.k b.k_3, le-leb r.k 20 b.k-20, le-leb 4 (width r) b.width-4, le-leb (width r) 26 b.width-26, eq-eqb (length bytes) (4 * 2 ^ r.k) l, refusal)
+    rw (le-leb 3 r.k b.k_3, le-leb r.k 20 b.k_20, le-leb 4 (width r) b.width_4, le-leb (width r) 26 b.width_26, eq-eqb (length bytes) (4 * 2 ^ r.k) l, refusal)
 
 pub bytes_same : (r : Filter) (main queue annex bytes : List ℕ) → query_number r main queue annex ≡ 0 → length bytes ≡ 4 * 2 ^ r.k → words_of bytes ≡ main
     → (h : ℕ) → query_bytes r.k (width r) bytes h ≡ query r main queue annex h

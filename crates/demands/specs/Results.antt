@@ -37,7 +37,7 @@ module _ (r : Filter) (main queue annex : List ℕ) where
 
   -- a call has changed nothing: the record and all lent words are those handed in
   pub record Nothing (o : Outcome) : Type 0 where
-    pub same-record : o.rec ≡ r
-    pub same-main : o.main ≡ main
+    pub same_record : o.rec ≡ r
+    pub same_main : o.main ≡ main
     pub same_queue : o.queue ≡ queue
-    pub same-annex : o.annex ≡ annex
+    pub same_annex : o.annex ≡ annex

@@ -30,11 +30,11 @@ right-rest k ps t = and_right (places_right k 5 (places_in_use ps)) (every zero_
 
 -- what holds of each place in use
 pub record RightPlace (k last : ℕ) (p : Place) : Type 0 where
-  pub b-low : last < p.b
-  pub b-high : p.b ≤ k
-  pub s-low : 3 ≤ p.s
-  pub s-high : p.s < p.b
-  pub count-high : p.count ≤ limit p.s
+  pub b_low : last < p.b
+  pub b_high : p.b ≤ k
+  pub s_low : 3 ≤ p.s
+  pub s_high : p.s < p.b
+  pub count_high : p.count ≤ limit p.s
 
 pub right-first : (k last : ℕ) (p : Place) (ps : List Place) → T (places_right k last (p ∷ ps)) → RightPlace k last p
 unfolding places_right
@@ -47,11 +47,11 @@ right-first k last p ps t =
     let b₁ : last + 1 ≤ p.b = leb→le _ _ (and_left (leb (last + 1) p.b) (leb p.b k) u) in
     let s₂ : p.s ≤ p.b - 1 = leb→le _ _ (and_right (leb 3 p.s) (leb p.s (p.b - 1)) v) in
     record {
-      b-low = omega arith;
-      b-high = leb→le _ _ (and_right (leb (last + 1) p.b) (leb p.b k) u);
-      s-low = leb→le _ _ (and_left (leb 3 p.s) (leb p.s (p.b - 1)) v);
-      s-high = omega arith;
-      count-high = leb→le _ _ w;
+      b_low = omega arith;
+      b_high = leb→le _ _ (and_right (leb (last + 1) p.b) (leb p.b k) u);
+      s_low = leb→le _ _ (and_left (leb 3 p.s) (leb p.s (p.b - 1)) v);
+      s_high = omega arith;
+      count_high = leb→le _ _ w;
     }
 
 pub right-next : (k last : ℕ) (p : Place) (ps : List Place) → T (places_right k last (p ∷ ps)) → T (places_right k p.b ps)
@@ -65,10 +65,10 @@ pub places-right : (k last : ℕ) (ps : List Place) → T (places_right k last p
 places-right k last [] t = tt
 places-right k last (p ∷ ps) t =
     let r : RightPlace k last p = right-first k last p ps t in
-    (r, all_map (RightPlace k p.b) (RightPlace k last) (λ q s. lower q r.b-low s) ps (places-right k p.b ps (right-next k last p ps t)))
+    (r, all_map (RightPlace k p.b) (RightPlace k last) (λ q s. lower q r.b_low s) ps (places-right k p.b ps (right-next k last p ps t)))
   where
     lower : (q : Place) → last < p.b → RightPlace k p.b q → RightPlace k last q
-    lower q l s = record { b-low = omega arith; b-high = s.b-high; s-low = s.s-low; s-high = s.s-high; count-high = s.count-high }
+    lower q l s = record { b_low = omega arith; b_high = s.b_high; s_low = s.s_low; s_high = s.s_high; count_high = s.count_high }
 
 pub right-places : (k : ℕ) (ps : List Place) → T (directory_right k ps) → All (RightPlace k 5) (places_in_use ps)
 right-places k ps t = places-right k 5 (places_in_use ps) (right-used k ps t)
@@ -191,7 +191,7 @@ right-sizes k ps h t j = go (dec_le (length ps) j)
     Small p = p.s ≤ 20
 
     used : All Small (places_in_use ps)
-    used = all_map (RightPlace k 5) Small (λ p r. omega (arith, r.b-high, r.s-high)) (places_in_use ps) (right-places k ps t)
+    used = all_map (RightPlace k 5) Small (λ p r. omega (arith, r.b_high, r.s_high)) (places_in_use ps) (right-places k ps t)
 
     rest : All Small (places_not_in_use ps)
     rest = all_map (λ p. T (zero_place p)) Small (λ p z. omega (arith, ap (λ (q : Place). q.s) (zero_is p z))) (places_not_in_use ps) (every-all zero_place (places_not_in_use ps) (right-rest k ps t))

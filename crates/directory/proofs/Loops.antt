@@ -24,8 +24,8 @@ step ps l i h = let k : i < length ps = omega arith in rw (add-one, drop-cons ps
 past : (ps : List Place) → length ps ≡ 15 → (i : ℕ) → 15 ≤ i → drop i ps ≡ []
 past ps l i h = let k : length ps ≤ i = omega arith in drop_of_length-le ps k
 
-is-taken : (p : Place) → (p.b ≡ 0 → ⊥) → taken p ≡ true
-is-taken p e = ap not (ne_eqb p.b 0 e)
+is_taken : (p : Place) → (p.b ≡ 0 → ⊥) → taken p ≡ true
+is_taken p e = ap not (ne_eqb p.b 0 e)
 
 is_free : (p : Place) → p.b ≡ 0 → taken p ≡ false
 is_free p e = ap not (eq-eqb p.b 0 e)
@@ -43,7 +43,7 @@ module _ (ps : List Place) (l : length ps ≡ 15) (i : ℕ) (inv : length (place
     pub in-use-again : ((get_or ps i no_place).b ≡ 0 → ⊥) → length (places_in_use ps) ≡ i + 1 + length (places_in_use (drop (i + 1) ps))
     in-use-again e =
         let z : length (places_in_use (drop i ps)) ≡ suc (length (places_in_use (drop (i + 1) ps)))
-        = ap (λ l. length (places_in_use l)) (step ps l i h) ∙ ap length (front-yes taken (get_or ps i no_place) (drop (i + 1) ps) (is-taken (get_or ps i no_place) e)) in
+        = ap (λ l. length (places_in_use l)) (step ps l i h) ∙ ap length (front-yes taken (get_or ps i no_place) (drop (i + 1) ps) (is_taken (get_or ps i no_place) e)) in
         omega arith
 
   pub in-use-end : 15 ≤ i → i ≡ length (places_in_use ps)
@@ -131,8 +131,8 @@ module _ (k last : ℕ) (ps : List Place) (l : length ps ≡ 15) (i : ℕ) (answ
       right-step =
           let p = get_or ps i no_place in
           let qs = drop (i + 1) ps in
-          let u : places_in_use (drop i ps) ≡ p ∷ places_in_use qs = ap places_in_use (step ps l i h) ∙ front-yes taken p qs (is-taken p e) in
-          let n : places_not_in_use (drop i ps) ≡ places_not_in_use qs = ap places_not_in_use (step ps l i h) ∙ behind-yes taken p qs (is-taken p e) in
+          let u : places_in_use (drop i ps) ≡ p ∷ places_in_use qs = ap places_in_use (step ps l i h) ∙ front-yes taken p qs (is_taken p e) in
+          let n : places_not_in_use (drop i ps) ≡ places_not_in_use qs = ap places_not_in_use (step ps l i h) ∙ behind-yes taken p qs (is_taken p e) in
           inv
           ∙ ap (λ l. places_right k last l && every zero_place (places_not_in_use (drop i ps))) u
           ∙ ap (λ l. places_right k last (p ∷ places_in_use qs) && every zero_place l) n
@@ -185,7 +185,7 @@ right-past k (p ∷ ps) = go (ℕ_discrete p.b 0)
 
     go : Dec (p.b ≡ 0) → right_from k k (p ∷ ps) ≡ every zero_place (p ∷ ps)
     go (yes e) = rw (front-no taken p ps (is_free p e), behind-no taken p ps (is_free p e))
-    go (no e) = rw (front-yes taken p ps (is-taken p e), behind-yes taken p ps (is-taken p e), none, ne_eqb p.b 0 e)
+    go (no e) = rw (front-yes taken p ps (is_taken p e), behind-yes taken p ps (is_taken p e), none, ne_eqb p.b 0 e)
 
 none-in-use : (ps : List Place) → every zero_place ps ≡ true → places_in_use ps ≡ []
 unfolding every front
@@ -237,14 +237,14 @@ module _ (k last : ℕ) (ps : List Place) (l : length ps ≡ 15) (i words : ℕ)
       pub used-small : k ≤ 20 → r ≡ true → (get_or ps i no_place).s ≤ 20
       used-small k20 g =
           let q = right-first k last (get_or ps i no_place) [] (true-test _ (sym f ∙ g)) in
-          omega (arith, q.b-high, q.s-high)
+          omega (arith, q.b_high, q.s_high)
 
       pub used_step : r ≡ true → (z : ℕ) → (z ≡ 2 ^ (get_or ps i no_place).s) × (z ≤ 1048576) → (last' words' : ℕ) → last' ≡ (get_or ps i no_place).b → words' ≡ words + z
           → Walked k ps last' words' (i + 1)
       used_step g z ez last' words' el ew =
           let p = get_or ps i no_place in
           let qs = drop (i + 1) ps in
-          let u : places_in_use (drop i ps) ≡ p ∷ places_in_use qs = ap places_in_use (step ps l i h) ∙ front-yes taken p qs (is-taken p e) in
+          let u : places_in_use (drop i ps) ≡ p ∷ places_in_use qs = ap places_in_use (step ps l i h) ∙ front-yes taken p qs (is_taken p e) in
           let s : words_taken (places_in_use (drop i ps)) ≡ 2 ^ p.s + words_taken (places_in_use qs) = ap words_taken u ∙ words-cons p (places_in_use qs) in (
             omega arith,
             (

@@ -1,9 +1,11 @@
+#![tactic(auto)]
+
 // The annex directory: an array of fifteen small structs, passed by value.
 ghost use Rattle.std.specs.Prelude.{◌≡◌, ◌∷◌, [], ℕ, ◌*◌, ◌≤◌, ◌^◌, T, length, get_or, take};
 ghost use Rattle.directory.specs.Places.{no_place, places_in_use, places_right, zero_place, directory_right, words_taken};
 
 #[repr(C)]
-#[derive(Drop)]
+#[derive(Clone, Copy)]
 pub struct Place {
     pub b: u32,
     pub s: u32,
@@ -60,7 +62,7 @@ pub fn table_words(s: u32) -> usize
 }
 
 // Whether a directory is right, and the words of its tables where it is.
-#[derive(Drop)]
+#[derive(Clone, Copy)]
 pub struct Reading {
     pub right: bool,
     pub words: usize,

@@ -26,7 +26,7 @@ use Rattle.rules.specs.Doubling.{doubled, new_hashes, size_for}
 use Rattle.rules.specs.Slow.{hashes, room_for, doubled_runs}
 use Rattle.keeps.proofs.Holds.{length-words}
 use Rattle.keeps.proofs.State.{Good, Fine, fine}
-use Rattle.keeps.proofs.Bounds.{Bounds, bounds, width-pos, width-26, width-rises, place-fine, places-few}
+use Rattle.keeps.proofs.Bounds.{Bounds, bounds, width-pos, width_26, width-rises, place-fine, places-few}
 use Rattle.keeps.proofs.Entries.{passes-lt}
 use Rattle.keeps.proofs.Hashes.{hashes-few}
 use Rattle.keeps.proofs.NewTable.{Sized, size-for}
@@ -43,24 +43,24 @@ few-places k (p ∷ ps) h t =
     omega (arith, f.0.above, f.0.short, places-few k 5 (p ∷ ps) t (omega (arith, f.0.above, f.0.short)))
 
 pub record Facts (main second annex : List ℕ) (k w v taken n : ℕ) (places : List Place) : Type 0 where
-  pub main-size : Size main
-  pub second-size : Size second
-  pub second-long : length second ≡ length main + length main
+  pub main_size : Size main
+  pub second_size : Size second
+  pub second_long : length second ≡ length main + length main
   pub narrow : Narrow w main
   pub w_1 : 1 ≤ w
-  pub w-v : w ≤ v
-  pub v-26 : v ≤ 26
+  pub w_v : w ≤ v
+  pub v_26 : v ≤ 26
   pub rises : T (every rising (decode main))
   pub few : total (doubled w v (decode main)) < length second
-  pub main-long : length main ≡ 2 ^ k
-  pub k-19 : k ≤ 19
+  pub main_long : length main ≡ 2 ^ k
+  pub k_19 : k ≤ 19
   pub counted : n ≡ length (new_hashes w k 0 (decode main))
-  pub s-3 : 3 ≤ size_for n
-  pub s-k : size_for n ≤ k
+  pub s_3 : 3 ≤ size_for n
+  pub s_k : size_for n ≤ k
   pub fits : n < 2 ^ size_for n
   pub size : 2 ^ size_for n ≤ 1048576
   pub room : (n ≡ 0 → ⊥) → taken + 2 ^ size_for n ≤ length annex
-  pub taken-small : taken ≤ 1048576
+  pub taken_small : taken ≤ 1048576
   pub free : length (places_in_use places) < 15
   pub zeros : T (every zero_place (places_not_in_use places))
 
@@ -95,7 +95,7 @@ module _ (r : Filter) (main queue annex : List ℕ) (g : Good r main queue annex
   -- what `count_new` asks
   pub count-asks : (w : ℕ) → w ≡ width r → Size main × (w ≤ 26) × Narrow w main × (total (decode main) ≤ 1048576)
   count-asks w e =
-      (sizes, omega (arith, b.width-26), subst (λ (x : ℕ). Narrow x main) (sym e) narrow, omega (arith, f.table.counted, b.used-limit, b.limit-slots, b.slots))
+      (sizes, omega (arith, b.width_26), subst (λ (x : ℕ). Narrow x main) (sym e) narrow, omega (arith, f.table.counted, b.used_limit, b.limit_slots, b.slots))
 
 -- ---- and a Double that is not refused
 
@@ -119,10 +119,10 @@ module _ (r : Filter) (main second queue annex : List ℕ) (d : DoubleHad r main
 
   hash-count : length (hashes r main queue annex) ≤ limit r.k
   unfolding hashes
-  hash-count = omega (arith, hashes-few (width r) r.k 0 (decode main), f₂.table.counted, f₂.used-fits)
+  hash-count = omega (arith, hashes-few (width r) r.k 0 (decode main), f₂.table.counted, f₂.used_fits)
 
   sized : Sized r.k (length (hashes r main queue annex)) (size_for (length (hashes r main queue annex)))
-  sized = size-for (length (hashes r main queue annex)) r.k b₂.k_3 b₂.k-20 hash-count
+  sized = size-for (length (hashes r main queue annex)) r.k b₂.k_3 b₂.k_20 hash-count
 
   room : (length (hashes r main queue annex) ≡ 0 → ⊥) → annex_used r + 2 ^ size_for (length (hashes r main queue annex)) ≤ length annex
   unfolding room_for
@@ -134,24 +134,24 @@ module _ (r : Filter) (main second queue annex : List ℕ) (d : DoubleHad r main
   own =
       let s : ℕ = size_for (length (hashes r main queue annex)) in
       record {
-        main-size = sizes r main queue annex d.state;
-        second-size = (omega (arith, d.long, two, eight r main queue annex d.state), omega (arith, d.long, pow_mono {i = r.k + 1} {j = 20} (omega (arith, d.less))));
-        second-long = omega (arith, d.long, long₂, two);
+        main_size = sizes r main queue annex d.state;
+        second_size = (omega (arith, d.long, two, eight r main queue annex d.state), omega (arith, d.long, pow_mono {i = r.k + 1} {j = 20} (omega (arith, d.less))));
+        second_long = omega (arith, d.long, long₂, two);
         narrow = narrow r main queue annex d.state;
         w_1 = width-pos r r.k;
-        w-v = width-rises r r.k b₂.settings b₂.start-k d.less;
-        v-26 = width-26 r (r.k + 1) b₂.settings (omega (arith, d.less));
+        w_v = width-rises r r.k b₂.settings b₂.start_k d.less;
+        v_26 = width_26 r (r.k + 1) b₂.settings (omega (arith, d.less));
         rises = all-every rising (decode main) (all_map Rises (λ x. T (rising x)) rises-rising (decode main) f₂.table.rises);
         few = few;
-        main-long = long₂;
-        k-19 = omega (arith, d.less);
+        main_long = long₂;
+        k_19 = omega (arith, d.less);
         counted = unfold hashes in refl;
-        s-3 = sized.low;
-        s-k = sized.high;
+        s_3 = sized.low;
+        s_k = sized.high;
         fits = omega (arith, sized.fits, limit-lt s);
         size = omega (arith, pow_mono {i = s} {j = r.k} sized.high, b₂.slots);
         room = room;
-        taken-small = b₂.annex-small;
+        taken_small = b₂.annex_small;
         free = few-places r.k (in_use r) d.less f₂.places;
         zeros = f₂.zeros;
       }
@@ -162,10 +162,10 @@ facts main second annex k w v taken n places g =
     let r : Filter = g.r in
     let q : List ℕ = g.queue in
     let e = g.numbers in
-    subst (λ (x : ℕ). Facts main second annex x w v taken n places) (sym e.is-k)
-    (subst (λ (x : ℕ). Facts main second annex r.k x v taken n places) (sym e.is-w)
-    (subst (λ (x : ℕ). Facts main second annex r.k (width r) x taken n places) (sym e.is-v)
-    (subst (λ (x : ℕ). Facts main second annex r.k (width r) (width_at r (r.k + 1)) x n places) (sym e.is-taken)
-    (subst (λ (x : ℕ). Facts main second annex r.k (width r) (width_at r (r.k + 1)) (annex_used r) x places) (sym e.is-n)
-    (subst (λ (x : List Place). Facts main second annex r.k (width r) (width_at r (r.k + 1)) (annex_used r) (length (hashes r main q annex)) x) (sym e.is-places)
+    subst (λ (x : ℕ). Facts main second annex x w v taken n places) (sym e.is_k)
+    (subst (λ (x : ℕ). Facts main second annex r.k x v taken n places) (sym e.is_w)
+    (subst (λ (x : ℕ). Facts main second annex r.k (width r) x taken n places) (sym e.is_v)
+    (subst (λ (x : ℕ). Facts main second annex r.k (width r) (width_at r (r.k + 1)) x n places) (sym e.is_taken)
+    (subst (λ (x : ℕ). Facts main second annex r.k (width r) (width_at r (r.k + 1)) (annex_used r) x places) (sym e.is_n)
+    (subst (λ (x : List Place). Facts main second annex r.k (width r) (width_at r (r.k + 1)) (annex_used r) (length (hashes r main q annex)) x) (sym e.is_places)
     (own r main second q annex (number-had r main q annex second g.number)))))))

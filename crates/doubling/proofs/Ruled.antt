@@ -58,21 +58,21 @@ module _ (r : Filter) (main queue annex : List ℕ) where
       (es : second ≡ layout (doubled w v (decode main))) (eu : used ≡ total (doubled w v (decode main))) where
     runs-are : doubled w v (decode main) ≡ doubled_runs r main queue annex
     unfolding doubled_runs
-    runs-are = ap₂ (λ (x y : ℕ). doubled x y (decode main)) e.is-w e.is-v
+    runs-are = ap₂ (λ (x y : ℕ). doubled x y (decode main)) e.is_w e.is_v
 
     hashes-are : new_hashes w k 0 (decode main) ≡ hashes r main queue annex
     unfolding hashes
-    hashes-are = ap₂ (λ (x y : ℕ). new_hashes x y 0 (decode main)) e.is-w e.is-k
+    hashes-are = ap₂ (λ (x y : ℕ). new_hashes x y 0 (decode main)) e.is_w e.is_k
 
     pub done_none : n ≡ 0 → Done r main queue annex second annex used places
     done_none z =
         let ms : List ℕ = hashes r main queue annex in
-        let l : length ms ≡ 0 = sym e.is-n ∙ z in
+        let l : length ms ≡ 0 = sym e.is_n ∙ z in
         record {
           second_is = es ∙ ap layout runs-are;
-          annex-is = none-annex ms l;
-          used-is = eu ∙ ap total runs-are;
-          places_is = e.is-places ∙ none-dir ms l;
+          annex_is = none-annex ms l;
+          used_is = eu ∙ ap total runs-are;
+          places_is = e.is_places ∙ none-dir ms l;
         }
 
     pub done-some : (s x : ℕ) (part : List ℕ) (more : List Place) → (n ≡ 0 → ⊥) → s ≡ size_for n → x ≡ 2 ^ s
@@ -81,8 +81,8 @@ module _ (r : Filter) (main queue annex : List ℕ) where
     done-some s x part more z e-s e-x e-part e-more =
         record {
           second_is = es ∙ ap layout runs-are;
-          annex-is = ap (λ (l : List ℕ). take taken annex ++ (part ++ l)) (drop-drop (taken + x - taken) taken annex ∙ ap (λ (y : ℕ). drop y annex) ends) ∙ words ∙ some-annex ms some;
-          used-is = eu ∙ ap total runs-are;
+          annex_is = ap (λ (l : List ℕ). take taken annex ++ (part ++ l)) (drop-drop (taken + x - taken) taken annex ∙ ap (λ (y : ℕ). drop y annex) ends) ∙ words ∙ some-annex ms some;
+          used_is = eu ∙ ap total runs-are;
           places_is = e-more ∙ dir ∙ some-dir ms some;
         }
       where
@@ -90,23 +90,23 @@ module _ (r : Filter) (main queue annex : List ℕ) where
         ms = hashes r main queue annex
 
         some : length ms ≡ 0 → ⊥
-        some l = z (e.is-n ∙ l)
+        some l = z (e.is_n ∙ l)
 
         size_is : s ≡ size_for (length ms)
-        size_is = e-s ∙ ap size_for e.is-n
+        size_is = e-s ∙ ap size_for e.is_n
 
         ends : taken + (taken + x - taken) ≡ annex_used r + 2 ^ size_for (length ms)
-        ends = omega (arith, e.is-taken, e-x, ap (λ (y : ℕ). 2 ^ y) size_is)
+        ends = omega (arith, e.is_taken, e-x, ap (λ (y : ℕ). 2 ^ y) size_is)
 
         table_is : part ≡ layout (table_of (r.k + 1) (size_for (length ms)) ms)
         table_is =
             e-part ∙ ap (λ (l : List ℕ). layout (table_of (k + 1) s l)) hashes-are
-            ∙ ap₂ (λ (x y : ℕ). layout (table_of (x + 1) y ms)) e.is-k size_is
+            ∙ ap₂ (λ (x y : ℕ). layout (table_of (x + 1) y ms)) e.is_k size_is
 
         words : take taken annex ++ (part ++ drop (annex_used r + 2 ^ size_for (length ms)) annex)
             ≡ take (annex_used r) annex ++ layout (table_of (r.k + 1) (size_for (length ms)) ms) ++ drop (annex_used r + 2 ^ size_for (length ms)) annex
         words =
-            ap₂ (λ (x : ℕ) (l : List ℕ). take x annex ++ (l ++ drop (annex_used r + 2 ^ size_for (length ms)) annex)) e.is-taken table_is
+            ap₂ (λ (x : ℕ) (l : List ℕ). take x annex ++ (l ++ drop (annex_used r + 2 ^ size_for (length ms)) annex)) e.is_taken table_is
             ∙ sym (append_assoc (take (annex_used r) annex) (layout (table_of (r.k + 1) (size_for (length ms)) ms)) (drop (annex_used r + 2 ^ size_for (length ms)) annex))
 
         place_is : (a b c d f g : ℕ) → a ≡ b → c ≡ d → f ≡ g → ◌≡◌ {A = Place} (record { b = a; s = c; count = f }) (record { b = b; s = d; count = g })
@@ -115,5 +115,5 @@ module _ (r : Filter) (main queue annex : List ℕ) where
         dir : fifteen (places_in_use places ++ (record { b = k + 1; s = s; count = n } ∷ []))
             ≡ fifteen (in_use r ++ (record { b = r.k + 1; s = size_for (length ms); count = length ms } ∷ []))
         dir =
-            ap₂ (λ (l : List Place) (p : Place). fifteen (places_in_use l ++ (p ∷ []))) e.is-places
-            (place_is (k + 1) (r.k + 1) s (size_for (length ms)) n (length ms) (ap (λ (x : ℕ). x + 1) e.is-k) size_is e.is-n)
+            ap₂ (λ (l : List Place) (p : Place). fifteen (places_in_use l ++ (p ∷ []))) e.is_places
+            (place_is (k + 1) (r.k + 1) s (size_for (length ms)) n (length ms) (ap (λ (x : ℕ). x + 1) e.is_k) size_is e.is_n)

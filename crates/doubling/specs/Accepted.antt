@@ -8,12 +8,12 @@ use Rattle.rules.specs.Slow.{hashes, double_number, doubled_runs, more_annex, mo
 
 -- the numbers of a record: k, width now and after, annex words in use, new mother hashes, directory
 pub record Numbers (r : Filter) (main queue annex : List ℕ) (k w v taken n : ℕ) (places : List Place) : Type 0 where
-  pub is-k : k ≡ r.k
-  pub is-w : w ≡ width r
-  pub is-v : v ≡ width_at r (r.k + 1)
-  pub is-taken : taken ≡ annex_used r
-  pub is-n : n ≡ length (hashes r main queue annex)
-  pub is-places : places ≡ r.dir
+  pub is_k : k ≡ r.k
+  pub is_w : w ≡ width r
+  pub is_v : v ≡ width_at r (r.k + 1)
+  pub is_taken : taken ≡ annex_used r
+  pub is_n : n ≡ length (hashes r main queue annex)
+  pub is_places : places ≡ r.dir
 
 -- they are those of some record and queue with which Double is not refused
 pub record Accepted (main second annex : List ℕ) (k w v taken n : ℕ) (places : List Place) : Type 0 where
@@ -25,6 +25,6 @@ pub record Accepted (main second annex : List ℕ) (k w v taken n : ℕ) (places
 -- the second main, annex, used count and directory after the call
 pub record Done (r : Filter) (main queue annex : List ℕ) (second annex_after : List ℕ) (used : ℕ) (places : List Place) : Type 0 where
   pub second_is : second ≡ layout (doubled_runs r main queue annex)
-  pub annex-is : annex_after ≡ more_annex r main queue annex (hashes r main queue annex)
-  pub used-is : used ≡ total (doubled_runs r main queue annex)
+  pub annex_is : annex_after ≡ more_annex r main queue annex (hashes r main queue annex)
+  pub used_is : used ≡ total (doubled_runs r main queue annex)
   pub places_is : places ≡ more_dir r main queue annex (hashes r main queue annex)

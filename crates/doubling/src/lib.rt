@@ -1,3 +1,5 @@
+#![tactic(auto)]
+
 // Double, on plain numbers and slices: the second main, and the annex table of the new mother hashes.
 ghost use Rattle.std.specs.Prelude.{◌≡◌, ◌||◌, List, ℕ, ◌+◌, ◌-◌, ◌*◌, ◌/◌, ◌%◌, ◌^◌, ◌≤◌, ◌<◌, leb, eqb, length};
 ghost use Rattle.lists.specs.Runs.{total};
@@ -157,7 +159,7 @@ pub fn write_table(main: &[u32], part: &mut [u32], k: u32, w: u32, s: u32)
     }
 }
 
-#[derive(Drop)]
+#[derive(Clone, Copy)]
 pub struct Doubled {
     pub used: u32,
     pub places: [directory::Place; 15],

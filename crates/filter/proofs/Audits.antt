@@ -29,15 +29,15 @@ module _ (r : Filter) (main queue annex : List ℕ) where
     -- what the test of soundness asks for
     pub record Asks (w : ℕ) : Type 0 where
       pub k_3 : 3 ≤ r.k
-      pub k-20 : r.k ≤ 20
+      pub k_20 : r.k ≤ 20
       pub w-4 : 4 ≤ w
-      pub w-26 : w ≤ 26
-      pub main-long : length main ≡ 2 ^ r.k
-      pub used-fits : r.used ≤ limit r.k
+      pub w_26 : w ≤ 26
+      pub main_long : length main ≡ 2 ^ r.k
+      pub used_fits : r.used ≤ limit r.k
       pub places : T (directory_right r.k r.dir)
-      pub annex-long : annex_used r ≤ length annex
+      pub annex_long : annex_used r ≤ length annex
       pub queue_long : r.queued ≤ length queue
-      pub queue-fits : r.queued ≤ 2 ^ 20
+      pub queue_fits : r.queued ≤ 2 ^ 20
 
     pub asks : (w : ℕ) → w ≡ width r → (4 ≤ w) × (w ≤ 26) → Asks w
     asks w ew hw =
@@ -46,15 +46,15 @@ module _ (r : Filter) (main queue annex : List ℕ) where
         let l = long r main queue annex x.1 in
         record {
           k_3 = b.k_3;
-          k-20 = b.k-20;
+          k_20 = b.k_20;
           w-4 = hw.0;
-          w-26 = hw.1;
-          main-long = l.main-long;
-          used-fits = b.used-limit;
+          w_26 = hw.1;
+          main_long = l.main_long;
+          used_fits = b.used_limit;
           places = directory-of r x.0;
-          annex-long = l.annex-long;
+          annex_long = l.annex_long;
           queue_long = l.queue_long;
-          queue-fits = b.queued-small;
+          queue_fits = b.queued_small;
         }
 
     pub audit-0 : sound r main queue annex ≡ true → 0 ≡ audit r main queue annex

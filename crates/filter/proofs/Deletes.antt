@@ -72,10 +72,10 @@ module _ (r : Filter) (main queue annex : List ℕ) (h : ℕ) where
           rw (ne_eqb (best r main h) (void (width r)) (λ q. ne (ch.entry ∙ q)), deleted)
           (record {
             number_is = refl;
-            rec-is = refl;
-            main-is = e ∙ ap₂ (λ (a b : ℕ). layout (set (decode main) a (erase b (get_or (decode main) a [])))) ch.slot ch.entry;
-            queue-is = refl;
-            annex-is = refl;
+            rec_is = refl;
+            main_is = e ∙ ap₂ (λ (a b : ℕ). layout (set (decode main) a (erase b (get_or (decode main) a [])))) ch.slot ch.entry;
+            queue_is = refl;
+            annex_is = refl;
           })
 
       pub bits-done : (b : Bool) (main' : List ℕ) → Removes b main' → DeleteQuick 0 (change r r.k (r.used - 1) r.queued r.dir) main' queue
@@ -96,7 +96,7 @@ module _ (r : Filter) (main queue annex : List ℕ) (h : ℕ) where
       unfolding void pay
       void-small =
           let b = bounds_of r main queue annex ch.lent in
-          omega (arith, vo, lib.Pow.pow_mono {i = width r} {j = 26} b.width-26)
+          omega (arith, vo, lib.Pow.pow_mono {i = width r} {j = 26} b.width_26)
 
       abbrev Raises : Bool → List ℕ → Type 0
       Raises b main' = (b ≡ false → main' ≡ main)
@@ -111,7 +111,7 @@ module _ (r : Filter) (main queue annex : List ℕ) (h : ℕ) where
       unfolding tombstone void pay
       next =
           let b = bounds_of r main queue annex ch.lent in
-          omega (arith, vo, lib.Pow.pow_mono {i = 1} {j = width r} (omega (arith, b.width-4)))
+          omega (arith, vo, lib.Pow.pow_mono {i = 1} {j = width r} (omega (arith, b.width_4)))
 
       raised : (main' : List ℕ) → main' ≡ layout (set (decode main) c (add (suc p) (erase p (get_or (decode main) c []))))
           → main' ≡ layout (set (decode main) (home r h) (add (tombstone (width r)) (erase (void (width r)) (get_or (decode main) (home r h) []))))
@@ -126,10 +126,10 @@ module _ (r : Filter) (main queue annex : List ℕ) (h : ℕ) where
           rw (eq-eqb (best r main h) (void (width r)) (sym ch.entry ∙ vo), deleted)
           (record {
             number_is = refl;
-            rec-is = refl;
-            main-is = e;
-            queue-is = ap (set queue r.queued) (ew ∙ ap (λ (a : ℕ). a * 2) ch.slot);
-            annex-is = refl;
+            rec_is = refl;
+            main_is = e;
+            queue_is = ap (set queue r.queued) (ew ∙ ap (λ (a : ℕ). a * 2) ch.slot);
+            annex_is = refl;
           })
 
       pub void-done : (b : Bool) (main' : List ℕ) (w : ℕ) → Raises b main' → b ≡ true → w ≡ c * 2 → (r.queued ≡ 1048576 → ⊥) → (r.queued ≡ length queue → ⊥)

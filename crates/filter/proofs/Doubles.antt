@@ -31,8 +31,8 @@ pub next-width-is : (r : Filter) (e : ℕ) → e ≡ extra r.regime (r.k + 1 - r
 unfolding width_at fresh_at
 next-width-is r e h = ap (λ (x : ℕ). r.f + x + 1) h
 
-pub annex-long : (r : Filter) (main queue annex : List ℕ) (taken : ℕ) → taken ≡ annex_used r → Good r main queue annex → taken ≤ length annex
-annex-long r main queue annex taken e g = omega (arith, e, (long r main queue annex g.slices-right).annex-long)
+pub annex_long : (r : Filter) (main queue annex : List ℕ) (taken : ℕ) → taken ≡ annex_used r → Good r main queue annex → taken ≤ length annex
+annex_long r main queue annex taken e g = omega (arith, e, (long r main queue annex g.slices-right).annex_long)
 
 module _ (r : Filter) (main queue annex : List ℕ) (second : ℕ) where
   pub number-2 : record_right r ≡ false → 2 ≡ double_number r main queue annex second
@@ -74,20 +74,20 @@ module _ (r : Filter) (main queue annex : List ℕ) (second : ℕ) where
           slices : slices_right r (length main) (length queue) (length annex) ≡ true
           slices = test-true _ (audit-good r main queue annex (sym z)).slices-right
 
-          is-sound : sound r main queue annex ≡ true
-          is-sound = test-true _ (audit-good r main queue annex (sym z)).is-sound
+          is_sound : sound r main queue annex ≡ true
+          is_sound = test-true _ (audit-good r main queue annex (sym z)).is_sound
 
           pub number-8 : (r.queued ≡ 0 → ⊥) → 8 ≡ double_number r main queue annex second
           unfolding double_number refusal
-          number-8 q = rw (re, ne_eqb r.k 20 nk, eq-eqb second (2 ^ (r.k + 1)) (es ∙ en), slices, is-sound, ne_eqb r.queued 0 q, refusal)
+          number-8 q = rw (re, ne_eqb r.k 20 nk, eq-eqb second (2 ^ (r.k + 1)) (es ∙ en), slices, is_sound, ne_eqb r.queued 0 q, refusal)
 
           pub number-10 : r.queued ≡ 0 → (b : Bool) → b ≡ room_for r main queue annex (hashes r main queue annex) → b ≡ false → 10 ≡ double_number r main queue annex second
           unfolding double_number refusal
-          number-10 q b eb f = rw (re, ne_eqb r.k 20 nk, eq-eqb second (2 ^ (r.k + 1)) (es ∙ en), slices, is-sound, eq-eqb r.queued 0 q, sym eb ∙ f, refusal)
+          number-10 q b eb f = rw (re, ne_eqb r.k 20 nk, eq-eqb second (2 ^ (r.k + 1)) (es ∙ en), slices, is_sound, eq-eqb r.queued 0 q, sym eb ∙ f, refusal)
 
           pub number-0 : r.queued ≡ 0 → (b : Bool) → b ≡ room_for r main queue annex (hashes r main queue annex) → b ≡ true → 0 ≡ double_number r main queue annex second
           unfolding double_number refusal
-          number-0 q b eb f = rw (re, ne_eqb r.k 20 nk, eq-eqb second (2 ^ (r.k + 1)) (es ∙ en), slices, is-sound, eq-eqb r.queued 0 q, sym eb ∙ f, refusal)
+          number-0 q b eb f = rw (re, ne_eqb r.k 20 nk, eq-eqb second (2 ^ (r.k + 1)) (es ∙ en), slices, is_sound, eq-eqb r.queued 0 q, sym eb ∙ f, refusal)
 
 module _ (r : Filter) (main queue annex : List ℕ) (second : ℕ) where
   -- a refusal before the annex is asked
@@ -106,7 +106,7 @@ module _ (r : Filter) (main queue annex : List ℕ) (second : ℕ) where
       record {
         refused = λ ne. absurd (ne refl);
         right = λ _. t;
-        low = λ _. less r.k 20 (bounds r t).k-20 nk;
+        low = λ _. less r.k 20 (bounds r t).k_20 nk;
         accepted = λ _. sym z;
         room = λ _ b eb. picked b (λ f. number-10 r main queue annex second re nk n en es z q b eb f) (λ f. number-0 r main queue annex second re nk n en es z q b eb f);
       }
@@ -125,11 +125,11 @@ module _ (r : Filter) (main queue annex second : List ℕ) where
     pub accepted : (w v taken n : ℕ) → w ≡ width r → v ≡ width_at r (r.k + 1) → taken ≡ annex_used r → n ≡ length (hashes r main queue annex)
         → doubling.Accepted main second annex r.k w v taken n r.dir
     accepted w v taken n ew ev et en =
-        record { r = r; queue = queue; numbers = record { is-k = refl; is-w = ew; is-v = ev; is-taken = et; is-n = en; is-places = refl }; number = sym z }
+        record { r = r; queue = queue; numbers = record { is_k = refl; is_w = ew; is_v = ev; is_taken = et; is_n = en; is_places = refl }; number = sym z }
 
     pub numbers : (w v taken n : ℕ) → w ≡ width r → v ≡ width_at r (r.k + 1) → taken ≡ annex_used r → n ≡ length (hashes r main queue annex)
         → doubling.Numbers r main queue annex r.k w v taken n r.dir
-    numbers w v taken n ew ev et en = record { is-k = refl; is-w = ew; is-v = ev; is-taken = et; is-n = en; is-places = refl }
+    numbers w v taken n ew ev et en = record { is_k = refl; is_w = ew; is_v = ev; is_taken = et; is_n = en; is_places = refl }
 
     done : (annex' : List ℕ) (u : ℕ) (d : List Place) (second' : List ℕ) → doubling.Done r main queue annex second' annex' u d
         → Leaves (doubled_outcome r main queue annex) 0 (change r (r.k + 1) u 0 d) main queue annex'
@@ -137,10 +137,10 @@ module _ (r : Filter) (main queue annex second : List ℕ) where
     done annex' u d second' l =
         record {
           number_is = refl;
-          rec-is = λ i. record { k = r.k + 1; start = r.start; f = r.f; regime = r.regime; used = l.used-is i; queued = 0; dir = l.places_is i };
-          main-is = refl;
-          queue-is = refl;
-          annex-is = l.annex-is;
+          rec_is = λ i. record { k = r.k + 1; start = r.start; f = r.f; regime = r.regime; used = l.used_is i; queued = 0; dir = l.places_is i };
+          main_is = refl;
+          queue_is = refl;
+          annex_is = l.annex_is;
         }
 
     pub double-done : (annex' : List ℕ) (u : ℕ) (d : List Place) (second' : List ℕ) → doubling.Done r main queue annex second' annex' u d

@@ -14,7 +14,7 @@ use Rattle.filter.specs.Promises.{first_number, Leaves, Quick}
 
 -- an outcome leaves itself
 pub leaves : (o : Outcome) → Leaves o o.number o.rec o.main o.queue o.annex
-leaves o = record { number_is = refl; rec-is = refl; main-is = refl; queue-is = refl; annex-is = refl }
+leaves o = record { number_is = refl; rec_is = refl; main_is = refl; queue_is = refl; annex_is = refl }
 
 -- 2 and 3 come first
 first-refused : (a b : Bool) (n : ℕ) (ts : List Test) → refusal (record { right = a; number = 2 } ∷ record { right = b; number = 3 } ∷ []) ≡ suc n
@@ -55,11 +55,11 @@ module _ (r : Filter) (main queue annex : List ℕ) where
       record {
         decided = λ m d. rw e (as-given n);
         determined = λ t. rw e (as-given n);
-        kept-annex = refl;
-        kept-settings = same-settings;
-        refused-record = λ ne. refl;
-        refused-main = λ ne. refl;
-        refused-queue = λ ne. refl;
+        kept_annex = refl;
+        kept_settings = same-settings;
+        refused_record = λ ne. refl;
+        refused_main = λ ne. refl;
+        refused_queue = λ ne. refl;
       }
 
   -- memory is not sound: nothing is changed
@@ -68,11 +68,11 @@ module _ (r : Filter) (main queue annex : List ℕ) where
       record {
         decided = λ m d. absurd (omega arith);
         determined = λ t. absurd (no-sound t);
-        kept-annex = refl;
-        kept-settings = same-settings;
-        refused-record = λ ne. refl;
-        refused-main = λ ne. refl;
-        refused-queue = λ ne. refl;
+        kept_annex = refl;
+        kept_settings = same-settings;
+        refused_record = λ ne. refl;
+        refused_main = λ ne. refl;
+        refused_queue = λ ne. refl;
       }
 
   -- it is done
@@ -84,9 +84,9 @@ module _ (r : Filter) (main queue annex : List ℕ) where
       record {
         decided = λ m d. absurd (omega arith);
         determined = l;
-        kept-annex = refl;
-        kept-settings = refl;
-        refused-record = λ ne. absurd (ne refl);
-        refused-main = λ ne. absurd (ne refl);
-        refused-queue = λ ne. absurd (ne refl);
+        kept_annex = refl;
+        kept_settings = refl;
+        refused_record = λ ne. absurd (ne refl);
+        refused_main = λ ne. absurd (ne refl);
+        refused_queue = λ ne. absurd (ne refl);
       }

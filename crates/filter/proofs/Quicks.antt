@@ -2,7 +2,7 @@
 use mathlib.Core.Path.{◌≡◌, refl, sym, ap, ap₂, ◌∙◌, subst}
 use mathlib.Core.Bool.{Bool, true, false}
 use mathlib.Core.List.{List, [], ◌∷◌}
-use Prim.Native.Nat.{ℕ, zero, suc, ◌+◌, ◌-◌, ◌≤◌, ◌<◌, ◌^◌}
+use Prim.Native.Nat.{ℕ, zero, suc, ◌+◌, ◌≤◌, ◌<◌, ◌^◌}
 use native.Mathlib.Omega.{arith}
 use native.Mathlib.Decide.{ℕ_discrete}
 use lib.Dec.{T, eqb}
@@ -42,13 +42,13 @@ module _ (r : Filter) (main queue annex : List ℕ) where
   pub fine-state : 0 ≡ first_number r (length main) (length queue) (length annex) → T (sound r main queue annex) → Fine r main queue annex (decode main)
   fine-state z s =
       let x = first-right r (length main) (length queue) (length annex) (sym z) in
-      fine r main queue annex (record { record-right = x.0; slices-right = x.1; is-sound = s })
+      fine r main queue annex (record { record-right = x.0; slices-right = x.1; is_sound = s })
 
   pub bounds_of : 0 ≡ first_number r (length main) (length queue) (length annex) → Bounds r
   bounds_of z = bounds r (first-right r (length main) (length queue) (length annex) (sym z)).0
 
   pub main-length : 0 ≡ first_number r (length main) (length queue) (length annex) → length main ≡ 2 ^ r.k
-  main-length z = (Rattle.keeps.proofs.State.long r main queue annex (first-right r (length main) (length queue) (length annex) (sym z)).1).main-long
+  main-length z = (Rattle.keeps.proofs.State.long r main queue annex (first-right r (length main) (length queue) (length annex) (sym z)).1).main_long
 
   -- numbers that the walk asks for
   pub record Walk (c w k : ℕ) : Type 0 where
@@ -67,8 +67,8 @@ module _ (r : Filter) (main queue annex : List ℕ) where
         inside = omega arith;
         most = omega (arith, b.slots);
         more = omega arith;
-        wide = omega (arith, b.width-26);
-        tall = b.k-20;
+        wide = omega (arith, b.width_26);
+        tall = b.k_20;
       }
 
   -- what the walk found
@@ -147,7 +147,7 @@ module _ (r : Filter) (main queue annex : List ℕ) where
   pub insert-fits : (l : ℕ) → 0 ≡ first_number r (length main) (length queue) (length annex) → l ≡ limit r.k → (r.used ≡ l → ⊥) → (r.used < 2 ^ r.k) × (r.used < 1048576)
   insert-fits l z el ne =
       let b = bounds_of z in
-      (omega (arith, b.used-limit, b.limit-slots), omega (arith, b.used-limit, b.limit-slots, b.slots))
+      (omega (arith, b.used_limit, b.limit_slots), omega (arith, b.used_limit, b.limit_slots, b.slots))
 
   -- a payload fits a word
   pub small : (w p : ℕ) → w ≤ 26 → p < 2 ^ w → p < 536870912
@@ -160,10 +160,10 @@ module _ (r : Filter) (main queue annex : List ℕ) where
   insert-left c p h main' v few room ec ep t =
       record {
         number_is = refl;
-        rec-is = refl;
-        main-is = t (decode main) v.table.laid (omega (arith, v.table.counted, v.table.size)) ∙ ap₂ (λ (a b : ℕ). layout (set (decode main) a (add b (get_or (decode main) a [])))) ec ep;
-        queue-is = refl;
-        annex-is = refl;
+        rec_is = refl;
+        main_is = t (decode main) v.table.laid (omega (arith, v.table.counted, v.table.size)) ∙ ap₂ (λ (a b : ℕ). layout (set (decode main) a (add b (get_or (decode main) a [])))) ec ep;
+        queue_is = refl;
+        annex_is = refl;
       }
 
   pub insert-done : (h l c p w fl : ℕ) (main' : List ℕ) → 0 ≡ first_number r (length main) (length queue) (length annex) → l ≡ limit r.k → (r.used ≡ l → ⊥)
@@ -175,5 +175,5 @@ module _ (r : Filter) (main queue annex : List ℕ) where
       let b = bounds_of z in
       done-quick r main queue annex (insert r main queue annex h) (insert_number r main queue annex) (sound r main queue annex) (r.used + 1) r.queued main' queue (insert-open l z el ne)
       (λ s. rw (insert-open l z el ne, give)
-      (insert-left c p h main' (fine-state z s) (less r.used (limit r.k) b.used-limit (λ e. ne (e ∙ sym el))) b.limit-slots ec
+      (insert-left c p h main' (fine-state z s) (less r.used (limit r.k) b.used_limit (λ e. ne (e ∙ sym el))) b.limit_slots ec
       (ep ∙ ap₂ (λ (a b : ℕ). fresh_payload a b r.k h) ew ef) t))

@@ -11,6 +11,7 @@ use Rattle.directory.specs.Places.{directory_right}
 use Rattle.rules.specs.Record.{Filter, fresh_at, width_at, fresh, width, annex_used}
 use Rattle.rules.specs.Refusals.{refusal, settings_right, record_right, slices_right}
 use Rattle.filter.specs.Promises.{first_number}
+use Rattle.filter.specs.Widths.{width_asked}
 
 module _ (r : Filter) where
   -- number 2 is not given where all of these hold
@@ -47,9 +48,9 @@ module _ (r : Filter) where
   record-wrong e = (e, λ t. absurd (subst T (sym e) t))
 
   -- the settings leave 3 at least for k
-  pub low-k : settings_right r.start r.f r.regime ≡ true → within r.start 20 r.k ≡ true → (3 ≤ r.k) × (r.k ≤ 20)
+  pub low_k : settings_right r.start r.f r.regime ≡ true → within r.start 20 r.k ≡ true → (3 ≤ r.k) × (r.k ≤ 20)
   unfolding settings_right
-  low-k a b =
+  low_k a b =
       let s = true-test _ a in
       let t = true-test _ b in
       let u = and_left (within 3 10 r.start) (within 3 15 r.f && leb r.regime 1) s in
@@ -86,6 +87,15 @@ module _ (r : Filter) where
       go false s x y = x
       go true true x y = absurd (omega (arith, first-0 m q a x y))
       go true false x y = absurd (omega (arith, first-3 m q a x y))
+
+  -- the width that is asked for
+  pub asked-width : (w : ℕ) → record_right r ≡ true → w ≡ width r → w ≡ width_asked r
+  unfolding width_asked
+  asked-width w e ew = rw (e, width_asked) ew
+
+  pub asked-none : record_right r ≡ false → 0 ≡ width_asked r
+  unfolding width_asked
+  asked-none e = rw (e, width_asked)
 
   -- fresh length and width, as the code adds them
   pub fresh-is : (e : ℕ) → e ≡ extra r.regime (r.k - r.start) → r.f + e ≡ fresh r

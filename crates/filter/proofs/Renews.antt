@@ -2,7 +2,7 @@
 use mathlib.Core.Path.{◌≡◌, refl, sym, ap, ap₂, ◌∙◌, subst}
 use mathlib.Core.Bool.{Bool, true, false}
 use mathlib.Core.List.{List, [], ◌∷◌}
-use Prim.Native.Nat.{ℕ, zero, suc, ◌+◌, ◌-◌, ◌*◌, ◌≤◌, ◌<◌, ◌^◌}
+use Prim.Native.Nat.{ℕ, zero, suc, ◌+◌, ◌*◌, ◌≤◌, ◌<◌, ◌^◌}
 use native.Mathlib.Omega.{arith}
 use native.Mathlib.Nat.{add-zero}
 use native.Mathlib.Decide.{dec_lt, ℕ_discrete}
@@ -76,14 +76,14 @@ module _ (r : Filter) (main queue annex : List ℕ) (h : ℕ) where
 
     full-bits : fresh r ≤ length_of (width r) p → 3 ≤ fresh r → p ≡ void (width r) → ⊥
     unfolding length_of
-    full-bits l f e = omega (arith, Rattle.slots.proofs.PayloadLaws.void-rest (width r) (omega (arith, (bounds_of r main queue annex ch.lent).width-4)), ap (rest_of (width r)) e)
+    full-bits l f e = omega (arith, Rattle.slots.proofs.PayloadLaws.void-rest (width r) (omega (arith, (bounds_of r main queue annex ch.lent).width_4)), ap (rest_of (width r)) e)
 
     pub renew-kept : fresh r ≤ length_of (width r) p → RenewQuick 0 r main queue
     unfolding rejuvenate give
     renew-kept l =
         let b = bounds_of r main queue annex ch.lent in
         refusal-quick r main queue annex _ _ _ 0
-        (ap (λ (n : ℕ). give n (rejuvenated r main queue annex h) (refused r main queue annex n)) (take-bits r main queue annex h c p ch (full-bits l b.fresh-3))
+        (ap (λ (n : ℕ). give n (rejuvenated r main queue annex h) (refused r main queue annex n)) (take-bits r main queue annex h c p ch (full-bits l b.fresh_3))
         ∙ kept-is (subst (λ (x : ℕ). fresh r ≤ length_of (width r) x) ch.entry l))
 
     -- ---- shorter
@@ -131,7 +131,7 @@ module _ (r : Filter) (main queue annex : List ℕ) (h : ℕ) where
       unfolding rejuvenated
       left v ev main' queue' em eq =
           rw (shorter, ev, rejuvenated)
-          (record { number_is = refl; rec-is = refl; main-is = em; queue-is = eq; annex-is = refl })
+          (record { number_is = refl; rec_is = refl; main_is = em; queue_is = eq; annex_is = refl })
 
       module _ (ne : p ≡ void (width r) → ⊥) where
         pub renew-bits : (b : Bool) (main' : List ℕ) → Exchanges b main' → b ≡ true → RenewQuick 0 r main' queue
@@ -159,4 +159,4 @@ module _ (r : Filter) (main queue annex : List ℕ) (h : ℕ) where
       pub fresh-small : q < 536870912
       fresh-small =
           let b = bounds_of r main queue annex ch.lent in
-          subst (λ (x : ℕ). x < 536870912) (sym re.becomes) (small r main queue annex (width r) (fresh_entry r h) b.width-26 (fresh-lt (width r) (fresh r) r.k h b.fresh-width))
+          subst (λ (x : ℕ). x < 536870912) (sym re.becomes) (small r main queue annex (width r) (fresh_entry r h) b.width_26 (fresh-lt (width r) (fresh r) r.k h b.fresh_width))

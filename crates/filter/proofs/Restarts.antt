@@ -23,7 +23,7 @@ module _ (main queue annex : List ℕ) (n : ℕ) (rec : Filter) (main' queue' an
   unfolding give refused
   by-refused zero zeroed r done z ne l = absurd (ne (l.number_is ∙ z))
   by-refused (suc m) zeroed r done z ne l =
-      record { number_is = l.number_is; rec-is = refl; main-is = l.main-is; queue-is = l.queue-is; annex-is = l.annex-is }
+      record { number_is = l.number_is; rec_is = refl; main_is = l.main_is; queue_is = l.queue_is; annex_is = l.annex_is }
 
   module _ (r : Filter) (power f regime : ℕ) (l : Leaves (start power f regime main queue annex) n rec main' queue' annex') where
     pub restarted : n ≡ 0 → Leaves (restart r power f regime main queue annex) n rec main' queue' annex'

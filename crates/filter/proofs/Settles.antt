@@ -23,14 +23,14 @@ module _ (r : Filter) (main queue annex : List ℕ) where
       let g = audit-good r main queue annex (sym z) in
       record {
         r = r;
-        numbers = record { k-is = refl; w-is = sym ew; used-is = refl; queued-is = refl; places-are = refl };
+        numbers = record { k_is = refl; w_is = sym ew; used_is = refl; queued_is = refl; places_are = refl };
         record-right = g.record-right;
         slices-right = g.slices-right;
-        is-sound = g.is-sound;
+        is_sound = g.is_sound;
       }
 
   pub numbers : (w : ℕ) → w ≡ width r → settling.Numbers r r.k w r.used r.queued r.dir
-  numbers w ew = record { k-is = refl; w-is = sym ew; used-is = refl; queued-is = refl; places-are = refl }
+  numbers w ew = record { k_is = refl; w_is = sym ew; used_is = refl; queued_is = refl; places_are = refl }
 
   done : (main' annex' : List ℕ) (u : ℕ) (d : List Place) → settling.Leaves (settled r main queue annex (held_after r main queue annex)) main' annex' u d
       → Leaves (settled r main queue annex (held_after r main queue annex)) 0 (change r r.k u 0 d) main' queue annex'
@@ -38,10 +38,10 @@ module _ (r : Filter) (main queue annex : List ℕ) where
   done main' annex' u d l =
       record {
         number_is = refl;
-        rec-is = λ i. record { k = r.k; start = r.start; f = r.f; regime = r.regime; used = l.used-is i; queued = 0; dir = l.places-are i };
-        main-is = l.main-is;
-        queue-is = refl;
-        annex-is = l.annex-is;
+        rec_is = λ i. record { k = r.k; start = r.start; f = r.f; regime = r.regime; used = l.used_is i; queued = 0; dir = l.places_are i };
+        main_is = l.main_is;
+        queue_is = refl;
+        annex_is = l.annex_is;
       }
 
   pub settle-done : 0 ≡ audit r main queue annex → (main' annex' : List ℕ) (u : ℕ) (d : List Place)

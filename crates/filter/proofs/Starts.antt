@@ -26,15 +26,15 @@ made power f regime d = record { k = power; start = power; f = f; regime = regim
 module _ (power f regime : ℕ) (main queue annex : List ℕ) where
   as-refused : (n : ℕ) → start_number power f regime (length main) ≡ suc n → (r : Filter) → r ≡ all_zero → Leaves (start power f regime main queue annex) (suc n) r main queue annex
   unfolding start give refused
-  as-refused n e r z = rw (e, give) (record { number_is = refl; rec-is = z; main-is = refl; queue-is = refl; annex-is = refl })
+  as-refused n e r z = rw (e, give) (record { number_is = refl; rec_is = z; main_is = refl; queue_is = refl; annex_is = refl })
 
   pub start-11 : settings_right power f regime ≡ false → (r : Filter) → r ≡ all_zero → Leaves (start power f regime main queue annex) 11 r main queue annex
   unfolding start_number refusal
   start-11 e r z = as-refused 10 (rw (e, refusal)) r z
 
-  pub start-3 : settings_right power f regime ≡ true → (n : ℕ) → n ≡ 2 ^ power → (length main ≡ n → ⊥) → (r : Filter) → r ≡ all_zero → Leaves (start power f regime main queue annex) 3 r main queue annex
+  pub start_3 : settings_right power f regime ≡ true → (n : ℕ) → n ≡ 2 ^ power → (length main ≡ n → ⊥) → (r : Filter) → r ≡ all_zero → Leaves (start power f regime main queue annex) 3 r main queue annex
   unfolding start_number refusal
-  start-3 e n en ne r z = as-refused 2 (rw (e, ne_eqb (length main) (2 ^ power) (λ x. ne (x ∙ sym en)), refusal)) r z
+  start_3 e n en ne r z = as-refused 2 (rw (e, ne_eqb (length main) (2 ^ power) (λ x. ne (x ∙ sym en)), refusal)) r z
 
   number-0 : settings_right power f regime ≡ true → length main ≡ 2 ^ power → start_number power f regime (length main) ≡ 0
   unfolding start_number refusal
@@ -45,7 +45,7 @@ module _ (power f regime : ℕ) (main queue annex : List ℕ) where
   unfolding start give
   start-0 e n en l r er main' em =
       rw (number-0 e (l ∙ en), give)
-      (record { number_is = refl; rec-is = er; main-is = em ∙ ap (λ (x : ℕ). replicate x 0) (l ∙ en); queue-is = refl; annex-is = refl })
+      (record { number_is = refl; rec_is = er; main_is = em ∙ ap (λ (x : ℕ). replicate x 0) (l ∙ en); queue_is = refl; annex_is = refl })
 
   -- the record of a fresh filter
   pub fresh-record : (d : List Place) → d ≡ replicate 15 no_place → made power f regime d ≡ started power f regime

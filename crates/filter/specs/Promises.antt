@@ -16,10 +16,10 @@ first_number r main queue annex =
 -- number, record and words are those of the outcome
 pub record Leaves (o : Outcome) (number : ℕ) (rec : Filter) (main queue annex : List ℕ) : Type 0 where
   pub number_is : number ≡ o.number
-  pub rec-is : rec ≡ o.rec
-  pub main-is : main ≡ o.main
-  pub queue-is : queue ≡ o.queue
-  pub annex-is : annex ≡ o.annex
+  pub rec_is : rec ≡ o.rec
+  pub main_is : main ≡ o.main
+  pub queue_is : queue ≡ o.queue
+  pub annex_is : annex ≡ o.annex
 
 -- A quick call that changes words. `o` is the outcome of its definition, `first` its number as far as the record and the lengths decide it, and `sound` the state's
 -- soundness; r, main, queue and annex are what was handed in, and the primed ones what was left.
@@ -30,11 +30,11 @@ pub record Quick (o : Outcome) (first : ℕ) (sound : Bool) (r : Filter) (main q
   -- on a sound state everything is the definition's
   pub determined : T sound → Leaves o number rec' main' queue' annex'
   -- on any state: the annex and the settings stay, and a call that is refused changes nothing
-  pub kept-annex : annex' ≡ annex
-  pub kept-settings : rec' ≡ change r r.k rec'.used rec'.queued r.dir
-  pub refused-record : (number ≡ 0 → ⊥) → rec' ≡ r
-  pub refused-main : (number ≡ 0 → ⊥) → main' ≡ main
-  pub refused-queue : (number ≡ 0 → ⊥) → queue' ≡ queue
+  pub kept_annex : annex' ≡ annex
+  pub kept_settings : rec' ≡ change r r.k rec'.used rec'.queued r.dir
+  pub refused_record : (number ≡ 0 → ⊥) → rec' ≡ r
+  pub refused_main : (number ≡ 0 → ⊥) → main' ≡ main
+  pub refused_queue : (number ≡ 0 → ⊥) → queue' ≡ queue
 
 -- ---- what each call promises: of the numbers, the record and the words that it leaves
 

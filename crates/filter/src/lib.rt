@@ -1,3 +1,5 @@
+#![tactic(auto)]
+
 // The record of a filter, by value, and its calls.
 ghost use Rattle.std.specs.Prelude.{◌≡◌, ◌+◌, ◌*◌, ◌≤◌, ◌<◌, T, length, replicate};
 ghost use Rattle.directory.specs.Places.{no_place, offset_in};
@@ -8,13 +10,14 @@ ghost use Rattle.rules.specs.Slow.{audit};
 ghost use Rattle.rules.specs.Lookups.{part};
 ghost use Rattle.filter.specs.Plain.{plain};
 ghost use Rattle.filter.specs.Restart.{restart};
+ghost use Rattle.filter.specs.Widths.{width_asked};
 ghost use Rattle.slots.specs.Payload.{void};
 ghost use Rattle.filter.specs.Promises.{first_number, Starts, Inserts, Deletes, Rejuvenates, Audits, Settles, Doubles, Chosen, Renewing, BeforeRoom, Leaves};
 
 use directory::{Place, Reading};
 
 #[repr(C)]
-#[derive(Drop)]
+#[derive(Clone, Copy)]
 pub struct Record {
     pub k: u32,
     pub start: u32,
@@ -26,7 +29,7 @@ pub struct Record {
 }
 
 // A call's number and the record after it.
-#[derive(Drop)]
+#[derive(Clone, Copy)]
 pub struct Answer {
     pub number: u32,
     pub rec: Record,
@@ -97,6 +100,17 @@ impl Record {
         ensures { (result ≡ width (plain self)) × ((4 ≤ result) × (result ≤ 26)) }
     {
         self.fresh_length() + 1
+    }
+
+    // The width of payloads, or 0 where number 2 is given.
+    pub fn payload_width(self) -> u32
+        ensures { result ≡ width_asked (plain self) }
+    {
+        let read = self.in_range();
+        if read.right {
+            return self.width();
+        }
+        0 // number 2
     }
 
     pub fn query(self, main: &[u32], queue: &[u32], annex: &[u32], hash: u64) -> u32

@@ -85,7 +85,7 @@ module _ (s : Words) (g : GoodWords s) (h : ℕ) where
       each (p ∷ l) = (short-64 v p, each l)
   has-match (inr l) =
       match-hits (matches w r.k h) run (void w)
-      (omega (arith, (v.address (home r h) (home-lt r h)).voids, mothers-count r.k 5 (home r h) (tables (in_use r) s.annex) (tables-of v).are v.high-k))
+      (omega (arith, (v.address (home r h) (home-lt r h)).voids, mothers-count r.k 5 (home r h) (tables (in_use r) s.annex) (tables-of v).are v.high_k))
       (true-match w r.k h (void w) (void-match w r.k h (width-pos r r.k)))
 
   pub yes-matches : Yes (seen s) h → 0 < length (matches_in s.rec s.main h)
@@ -136,7 +136,7 @@ unfolding sum
 tables-all k last [] v = unfold mothers in refl
 tables-all k last (t ∷ ts) v =
     mothers-cons (λ (_ : Item). 1) t ts
-    ∙ ap₂ ◌+◌ (table-all (t.b - t.s) t.s 0 t.runs (omega (arith, v.0.s-b)) v.0.passes) (tables-all k t.b ts v.1)
+    ∙ ap₂ ◌+◌ (table-all (t.b - t.s) t.s 0 t.runs (omega (arith, v.0.s_b)) v.0.passes) (tables-all k t.b ts v.1)
 
 length-one : {A : Type 0} (l : List A) → sum (λ (_ : A). 1) l ≡ length l
 length-one l = sum_one (λ _. 1) (λ _. refl) l

@@ -121,9 +121,9 @@ settled-match s t a = subst (λ (x : Words). MatchIn x.rec x.main x.annex) (sym 
 lent-match : (s t : Words) → Lends s t → VoidsMatch s → VoidsMatch t
 unfolding VoidsMatch
 lent-match s t l m =
-    subst (λ (r : Filter). MatchIn r t.main t.annex) (sym l.same-record)
-    (subst (λ (x : List ℕ). MatchIn s.rec x t.annex) (sym l.same-main)
-    (λ a h. m a h ∙ ap (mothers_of a) (sym (tables-same (in_use s.rec) t.annex s.annex l.same-annex))))
+    subst (λ (r : Filter). MatchIn r t.main t.annex) (sym l.same_record)
+    (subst (λ (x : List ℕ). MatchIn s.rec x t.annex) (sym l.same_main)
+    (λ a h. m a h ∙ ap (mothers_of a) (sym (tables-same (in_use s.rec) t.annex s.annex l.same_annex))))
 
 -- and so after any accepted calls of which a settle is the last
 pub after-settle : {cs : List Call} {s : Words} → AnyHistory (Settle ∷ cs) s → VoidsMatch s

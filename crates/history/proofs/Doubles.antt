@@ -58,7 +58,7 @@ module _ (r : Filter) (main queue annex : List ℕ) (v : Fine r main queue annex
         mothers-sum f ts (t ∷ []),
         mothers-cons f t [],
         no_more f,
-        table-new (r.k + 1) t.s ms tf.s-b (omega (arith, tf.short, tf.s-3)) (all_map P (λ m. m < 2 ^ (r.k + 1)) (λ m x. x.0) ms right) f,
+        table-new (r.k + 1) t.s ms tf.s_b (omega (arith, tf.short, tf.s_3)) (all_map P (λ m. m < 2 ^ (r.k + 1)) (λ m x. x.0) ms right) f,
       )
     where
       no_more : (f : Item → ℕ) → sum f (mothers []) ≡ 0
@@ -68,7 +68,7 @@ module _ (r : Filter) (main queue annex : List ℕ) (v : Fine r main queue annex
   kept : (f : Item → ℕ) → sum f (table_items w₂ (r.k + 1) 0 runs₂) + sum (λ m. f (item (r.k + 1) m)) new ≡ sum f (table_items w r.k 0 (decode main))
   unfolding doubled_runs
   kept f =
-      doubled-strings f w w₂ r.k (width-pos r r.k) (width-rises r r.k (sizes r.start r.f r.regime v.settings) v.low-k k19) (decode main)
+      doubled-strings f w w₂ r.k (width-pos r r.k) (width-rises r r.k (sizes r.start r.f r.regime v.settings) v.low_k k19) (decode main)
       v.table.size
 
   doubled-step : Doubled (seen_of r main queue annex)

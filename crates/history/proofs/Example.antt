@@ -225,14 +225,14 @@ history-2 : History (calls middle (calls first [])) refused-7
 unfolding tests refused-7 roomier
 history-2 =
     played middle (calls first []) roomier
-    (History.lent history-1 (record { same-record = refl; same-main = refl; same_queue = same→eq _ _ (test 1 (lit< tt)); same-annex = same→eq _ _ (test 2 (lit< tt)) }))
+    (History.lent history-1 (record { same_record = refl; same_main = refl; same_queue = same→eq _ _ (test 1 (lit< tt)); same_annex = same→eq _ _ (test 2 (lit< tt)) }))
     (test 3 (lit< tt))
 
 history-3 : History (calls taking (calls middle (calls first []))) queued
 unfolding tests queued longer
 history-3 =
     played taking (calls middle (calls first [])) longer
-    (History.lent history-2 (record { same-record = refl; same-main = refl; same_queue = same→eq _ _ (test 4 (lit< tt)); same-annex = same→eq _ _ (test 5 (lit< tt)) }))
+    (History.lent history-2 (record { same_record = refl; same_main = refl; same_queue = same→eq _ _ (test 4 (lit< tt)); same_annex = same→eq _ _ (test 5 (lit< tt)) }))
     (test 6 (lit< tt))
 
 pub history : History past ended

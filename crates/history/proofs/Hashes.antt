@@ -9,7 +9,7 @@ use native.Mathlib.Nat.{mod-lt, mod-mod}
 use native.Mathlib.Decide.{ℕ_discrete}
 use lib.Dec.{ltb, eqb, T, ltb→lt, eqb→eq}
 use lib.Pow.{pow_pos, field, split}
-use lib.ListN.{length, get_or, set}
+use lib.ListN.{get_or, set}
 use borrow.Author.Tests.{eq-eqb, ne_eqb, lt-ltb}
 use Rattle.lists.specs.Lists.{bit, sum}
 use Rattle.lists.specs.Runs.{Runs, add, erase, count}
@@ -116,7 +116,7 @@ table-lengths : (k last : ℕ) (t : Table) → TableFine k last t → All (λ i.
 table-lengths k last t f =
     let P : ℕ → Type 0 = λ p. T (annex_entry (t.b - t.s) p) in
     all-table (λ i. i.len ≡ t.b) 18 t.s t.runs
-    (λ j lt. all-run (λ i. i.len ≡ t.b) P 18 t.s j (λ p q hb. omega (arith, (plain (t.b - t.s) p q).length, f.s-b)) (get_or t.runs j [])
+    (λ j lt. all-run (λ i. i.len ≡ t.b) P 18 t.s j (λ p q hb. omega (arith, (plain (t.b - t.s) p q).length, f.s_b)) (get_or t.runs j [])
     (all_any P t.runs j f.passes))
 
 table-count : (k last a : ℕ) (t : Table) → TableFine k last t → k ≤ 20 → sum (under (suc k) a) (table_items 18 t.s 0 t.runs) ≡ matching a t
@@ -127,13 +127,13 @@ table-count k last a t f h =
     let P : ℕ → Type 0 = λ p. T (annex_entry n p) in
     let run = get_or rs (a % 2 ^ t.s) [] in
     let fine : All P run = all_any P rs (a % 2 ^ t.s) f.passes in
-    let back : t.b ≡ n + t.s = omega (arith, f.s-b) in
+    let back : t.b ≡ n + t.s = omega (arith, f.s_b) in
     let e : a % 2 ^ t.b / 2 ^ t.s ≡ a / 2 ^ t.s % 2 ^ n = ap (λ m. a % 2 ^ m / 2 ^ t.s) back ∙ field a n t.s in
     sum-all (λ (i : Item). i.len ≡ t.b) (under (suc k) a) (under 65 a) (λ i l. under_all k a i (omega (arith, f.short)) (omega arith)) (table_items 18 t.s 0 rs)
     (table-lengths k last t f)
-    ∙ run-hits 18 t.s a rs f.size (all_map P (λ p. t.s + length_of 18 p ≤ 64) (λ p q. omega (arith, (plain n p q).length, f.short, f.s-b)) run fine)
+    ∙ run-hits 18 t.s a rs f.size (all_map P (λ p. t.s + length_of 18 p ≤ 64) (λ p q. omega (arith, (plain n p q).length, f.short, f.s_b)) run fine)
     ∙ sum-all P (hits 18 t.s a) (is (pay 18 n (a / 2 ^ t.s % 2 ^ n)))
-    (λ p q. hit-is t.s n a p (omega (arith, f.s-b)) (omega (arith, f.short, f.s-3)) (plain n p q)) run fine
+    (λ p q. hit-is t.s n a p (omega (arith, f.s_b)) (omega (arith, f.short, f.s_3)) (plain n p q)) run fine
     ∙ sym (count-sum (pay 18 n (a / 2 ^ t.s % 2 ^ n)) run)
     ∙ ap (λ x. count (pay 18 n x) run) (sym e)
 
@@ -174,12 +174,12 @@ table-lost k last c t k20 f mt g =
     let m : ℕ = c % 2 ^ t.b in
     let p : ℕ = hash_entry t.b t.s m in
     let run : List ℕ = get_or rs a [] in
-    let n18 : t.b - t.s < 18 = omega (arith, f.short, f.s-3) in
+    let n18 : t.b - t.s < 18 = omega (arith, f.short, f.s_3) in
     let hm : m < 2 ^ t.b = mod-lt c (pow_pos t.b) in
-    let slot : m % 2 ^ t.s ≡ a = mod_low c t.b t.s (omega (arith, f.s-b)) in
-    run_drop 18 t.s a rs (erase p run) p (slot_lt k last c t f) (entry-bits t.b t.s m f.s-b n18 hm) (erase_same p run mt) g
+    let slot : m % 2 ^ t.s ≡ a = mod_low c t.b t.s (omega (arith, f.s_b)) in
+    run_drop 18 t.s a rs (erase p run) p (slot_lt k last c t f) (entry-bits t.b t.s m f.s_b n18 hm) (erase_same p run mt) g
     ∙ ap (λ x. x + sum g (table_items 18 t.s 0 (set rs a (erase p run))))
-    (ap (λ x. g (entry 18 t.s x p)) (sym slot) ∙ entry-item t.b t.s m f.s-b n18 hm g)
+    (ap (λ x. g (entry 18 t.s x p)) (sym slot) ∙ entry-item t.b t.s m f.s_b n18 hm g)
 
 -- the table that Double adds
 pub table-new : (b s : ℕ) (ms : List ℕ) → s < b → b - s < 18 → All (λ m. m < 2 ^ b) ms → (g : Item → ℕ)
@@ -202,7 +202,7 @@ before-short k last [] t after v = tt
 before-short k last (u ∷ us) t after v =
     let f = v.0 in
     let l : u.b < t.b = (table-inside k u.b us t after v.1).above in (
-      record { above = f.above; short = omega arith; s-3 = f.s-3; s-b = f.s-b; fits = f.fits; size = f.size; rises = f.rises; passes = f.passes },
+      record { above = f.above; short = omega arith; s_3 = f.s_3; s_b = f.s_b; fits = f.fits; size = f.size; rises = f.rises; passes = f.passes },
       before-short k u.b us t after v.1,
     )
 

@@ -26,7 +26,7 @@ use Rattle.rules.specs.Sound.{main_entry}
 use Rattle.rules.specs.Calls.{Outcome, refused}
 use Rattle.rules.specs.Quick.{home, fresh_entry, inserted, insert, delete, rejuvenate}
 use Rattle.keeps.proofs.State.{Good, Fine, fine}
-use Rattle.keeps.proofs.Bounds.{sizes, width-fresh, width-pos, width-26}
+use Rattle.keeps.proofs.Bounds.{sizes, width-fresh, width-pos, width_26}
 use Rattle.keeps.proofs.Entries.{passes-lt}
 use Rattle.keeps.proofs.Quick.{home-lt, is-fresh, Found, bits_of, removed-fine, void-fine, renewed-bits, renewed-void}
 use Rattle.keeps.proofs.Done.{Deletes, Renews, insert-done, delete-done, rejuvenate-done}
@@ -51,7 +51,7 @@ GoodWords s = Good s.rec s.main s.queue s.annex
 -- no entry is too long for a hash
 pub short-64 : {r : Filter} {main queue annex : List ℕ} {runs : Runs} → Fine r main queue annex runs → (p : ℕ) → r.k + length_of (width r) p ≤ 64
 short-64 {r} v p =
-    omega (arith, v.high-k, width-26 r r.k (sizes r.start r.f r.regime v.settings) v.high-k, rest_le (width r) p, length_rest (width r) p)
+    omega (arith, v.high_k, width_26 r r.k (sizes r.start r.f r.regime v.settings) v.high_k, rest_le (width r) p, length_rest (width r) p)
 
 pub shape : (s : Words) → GoodWords s → Shape (seen s)
 shape s g =
@@ -60,7 +60,7 @@ shape s g =
     let v = fine r s.main s.queue s.annex g in
     let P : Item → Type 0 = λ i. (r.k < i.len) × (i.len ≤ 64) in
     record {
-      wide = omega (arith, v.high-k);
+      wide = omega (arith, v.high_k);
       long = all-table P w r.k (decode s.main)
           (λ j lt. all-run P (λ _. Unit {0}) w r.k j (λ p _ hb. (omega (arith, ltb-true 1 (rest_of w p) hb, length_rest w p), short-64 v p)) (get_or (decode s.main) j [])
           (all_true (get_or (decode s.main) j [])));

@@ -23,7 +23,7 @@ use Rattle.keeps.proofs.Bounds.{width-pos}
 use Rattle.keeps.proofs.Annex.{Tables}
 use Rattle.keeps.proofs.Parts.{parts-back, tables-of}
 use Rattle.keeps.proofs.Take.{table-inside, without, Finding, missing, found, finding, no-runs}
-use Rattle.keeps.proofs.Cuts.{cut, cut-is, cut-length, cut_at, erase_all-sum, get_or-erase_all}
+use Rattle.keeps.proofs.Cuts.{cut-is, cut-length, cut_at, erase_all-sum, get_or-erase_all}
 use Rattle.keeps.proofs.Settle.{Mid, word-done, first, last, tables-left, settled-parts, settled-fine, settle_is}
 use Rattle.history.specs.History.{left}
 use Rattle.history.proofs.Strings.{Item}
@@ -122,7 +122,7 @@ module _ (r : Filter) (main queue annex : List ℕ) (g : Good r main queue annex
         size = v.table.size;
         rises = v.table.rises;
         passes = v.table.passes;
-        few = omega (arith, v.table.counted, v.used-fits);
+        few = omega (arith, v.table.counted, v.used_fits);
         are = (tables-of v).are;
         voids = λ a h. (v.address a h).voids;
       }
@@ -138,7 +138,7 @@ module _ (r : Filter) (main queue annex : List ℕ) (g : Good r main queue annex
         bits = λ f. ap (λ (rs : Runs). sum f (table_items w r.k 0 rs)) (settled-fine r main queue annex g).table.held
             ∙ tombstones-taken f w r.k wpos x.main ∙ words-kept f w r.k wpos (take r.queued queue) (first r main queue annex);
         left = mothers x.annex;
-        taken = words_take w r.k v.high-k (take r.queued queue) (first r main queue annex) at_first;
+        taken = words_take w r.k v.high_k (take r.queued queue) (first r main queue annex) at_first;
         mothers = λ f. ap (λ (ts : List Table). sum f (mothers ts)) (parts-back (settled-parts r main queue annex g))
             ∙ omega (arith, ap (λ (ts : List Table). sum f (mothers ts)) tr.cut, mothers-sum f tr.left tr.dropped, empty-mothers f tr.dropped tr.empty);
         queue = refl;

@@ -120,14 +120,14 @@ module _ (r : Filter) (main queue annex queue' annex' : List ℕ) (eq : take r.q
   lent-fine v =
       record {
         settings = v.settings;
-        low-k = v.low-k;
-        high-k = v.high-k;
-        used-fits = v.used-fits;
-        queue-fits = v.queue-fits;
+        low_k = v.low_k;
+        high_k = v.high_k;
+        used_fits = v.used_fits;
+        queue_fits = v.queue_fits;
         queue_long = as_long r.queued queue' queue eq v.queue_long;
         places = v.places;
         zeros = v.zeros;
-        annex-long = as_long (annex_used r) annex' annex ea v.annex-long;
+        annex_long = as_long (annex_used r) annex' annex ea v.annex_long;
         annex-right = subst T (sym (annex-same (in_use r) annex' annex ea)) v.annex-right;
         table = v.table;
         queue-right = subst (All (λ w. w / 2 < 2 ^ r.k)) (sym eq) v.queue-right;
@@ -145,8 +145,8 @@ module _ (r : Filter) (main queue annex queue' annex' : List ℕ) (eq : take r.q
 
 pub lends : (s t : Words) → Lends s t → GoodWords s → GoodWords t × (seen t ≡ seen s)
 lends s t l g =
-    subst (λ (r : Filter). Good r t.main t.queue t.annex × (seen_of r t.main t.queue t.annex ≡ seen s)) (sym l.same-record)
-    (subst (λ (m : List ℕ). Good s.rec m t.queue t.annex × (seen_of s.rec m t.queue t.annex ≡ seen s)) (sym l.same-main) (
-      lent-good s.rec s.main s.queue s.annex t.queue t.annex l.same_queue l.same-annex g,
-      lent_seen s.rec s.main s.queue s.annex t.queue t.annex l.same_queue l.same-annex,
+    subst (λ (r : Filter). Good r t.main t.queue t.annex × (seen_of r t.main t.queue t.annex ≡ seen s)) (sym l.same_record)
+    (subst (λ (m : List ℕ). Good s.rec m t.queue t.annex × (seen_of s.rec m t.queue t.annex ≡ seen s)) (sym l.same_main) (
+      lent-good s.rec s.main s.queue s.annex t.queue t.annex l.same_queue l.same_annex g,
+      lent_seen s.rec s.main s.queue s.annex t.queue t.annex l.same_queue l.same_annex,
     ))

@@ -117,10 +117,10 @@ Accepted Double s t = AcceptedDouble s t
 
 -- Between calls the caller may lend another queue and annex, as after a refusal by 7 or 10, in which the words in use are the same; their lengths may differ
 pub record Lends (s t : Words) : Type 0 where
-  pub same-record : t.rec ≡ s.rec
-  pub same-main : t.main ≡ s.main
+  pub same_record : t.rec ≡ s.rec
+  pub same_main : t.main ≡ s.main
   pub same_queue : take s.rec.queued t.queue ≡ take s.rec.queued s.queue
-  pub same-annex : take (annex_used s.rec) t.annex ≡ take (annex_used s.rec) s.annex
+  pub same_annex : take (annex_used s.rec) t.annex ≡ take (annex_used s.rec) s.annex
 
 -- ---- histories: the calls, the last first, and the words after them
 

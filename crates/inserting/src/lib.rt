@@ -1,3 +1,5 @@
+#![tactic(auto)]
+
 // An entry goes into a table of words, and each from there to the next empty slot moves one slot on. On any words the loop goes over the circle at most once.
 ghost use Rattle.std.specs.Prelude.{◌≡◌, ◌+◌, ◌*◌, ◌/◌, ◌%◌, ◌≤◌, ◌<◌, length};
 ghost use Rattle.layout.specs.Decode.{turn};

@@ -28,8 +28,8 @@ use Rattle.keeps.proofs.Bounds.{place-fine}
 pub record TableFine (k last : ℕ) (t : Table) : Type 0 where
   pub above : last < t.b
   pub short : t.b ≤ k
-  pub s-3 : 3 ≤ t.s
-  pub s-b : t.s < t.b
+  pub s_3 : 3 ≤ t.s
+  pub s_b : t.s < t.b
   pub fits : total t.runs ≤ limit t.s
   pub size : length t.runs ≡ 2 ^ t.s
   pub rises : All Rises t.runs
@@ -65,8 +65,8 @@ read k last (p ∷ ps) annex t u l =
         record {
           above = f.0.above;
           short = f.0.short;
-          s-3 = f.0.s-3;
-          s-b = f.0.s-b;
+          s_3 = f.0.s_3;
+          s_b = f.0.s_b;
           fits = omega (arith, h.counted, f.0.fits);
           size = h.size;
           rises = h.rises;
@@ -97,7 +97,7 @@ place-right k last t f ps u =
     let C = leb (total t.runs) (limit t.s) in
     let D = places_right k t.b ps in
     and_both A (B && (C && D)) (and_both (leb (last + 1) t.b) (leb t.b k) (le→leb (last + 1) t.b (omega (arith, f.above))) (le→leb _ _ f.short))
-    (and_both B (C && D) (and_both (leb 3 t.s) (leb t.s (t.b - 1)) (le→leb _ _ f.s-3) (le→leb t.s (t.b - 1) (omega (arith, f.s-b))))
+    (and_both B (C && D) (and_both (leb 3 t.s) (leb t.s (t.b - 1)) (le→leb _ _ f.s_3) (le→leb t.s (t.b - 1) (omega (arith, f.s_b))))
     (and_both C D (le→leb _ _ f.fits) u))
 
 -- the words of one such table
@@ -139,8 +139,8 @@ table_more k k' last last' t h l f =
     record {
       above = omega (arith, f.above);
       short = omega (arith, f.short);
-      s-3 = f.s-3;
-      s-b = f.s-b;
+      s_3 = f.s_3;
+      s_b = f.s_b;
       fits = f.fits;
       size = f.size;
       rises = f.rises;

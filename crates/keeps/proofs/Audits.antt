@@ -14,10 +14,10 @@ module _ (r : Filter) (main queue annex : List ℕ) where
   unfolding audit
   audit-good z =
       let a = asked-zero r main queue annex _ z in
-      record { record-right = a.0; slices-right = a.1; is-sound = (refusal-zero (sound r main queue annex) 3 [] a.2).0 }
+      record { record-right = a.0; slices-right = a.1; is_sound = (refusal-zero (sound r main queue annex) 3 [] a.2).0 }
 
   pub good-audit : Good r main queue annex → audit r main queue annex ≡ 0
   unfolding audit refusal
   good-audit g =
       zero-asked r main queue annex _ g.record-right g.slices-right
-      ∙ refusal-passed (record { right = sound r main queue annex; number = 4 }) [] g.is-sound
+      ∙ refusal-passed (record { right = sound r main queue annex; number = 4 }) [] g.is_sound

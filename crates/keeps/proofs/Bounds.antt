@@ -24,11 +24,11 @@ use Rattle.keeps.proofs.State.{ranges}
 -- ---- the settings
 
 pub record Sizes (start f regime : ℕ) : Type 0 where
-  pub start-3 : 3 ≤ start
-  pub start-10 : start ≤ 10
-  pub f-3 : 3 ≤ f
-  pub f-15 : f ≤ 15
-  pub regime-1 : regime ≤ 1
+  pub start_3 : 3 ≤ start
+  pub start_10 : start ≤ 10
+  pub f_3 : 3 ≤ f
+  pub f_15 : f ≤ 15
+  pub regime_1 : regime ≤ 1
 
 pub sizes : (start f regime : ℕ) → T (settings_right start f regime) → Sizes start f regime
 unfolding settings_right
@@ -40,11 +40,11 @@ sizes start f regime t =
     let u = and_right A (B && C) t in
     let b = and_left B C u in
     record {
-      start-3 = leb→le _ _ (and_left (leb 3 start) (leb start 10) a);
-      start-10 = leb→le _ _ (and_right (leb 3 start) (leb start 10) a);
-      f-3 = leb→le _ _ (and_left (leb 3 f) (leb f 15) b);
-      f-15 = leb→le _ _ (and_right (leb 3 f) (leb f 15) b);
-      regime-1 = leb→le _ _ (and_right B C u);
+      start_3 = leb→le _ _ (and_left (leb 3 start) (leb start 10) a);
+      start_10 = leb→le _ _ (and_right (leb 3 start) (leb start 10) a);
+      f_3 = leb→le _ _ (and_left (leb 3 f) (leb f 15) b);
+      f_15 = leb→le _ _ (and_right (leb 3 f) (leb f 15) b);
+      regime_1 = leb→le _ _ (and_right B C u);
     }
 
 -- ---- fresh length and width, in a table of 2^k slots
@@ -59,13 +59,13 @@ width-fresh r k = omega (arith, width_is r k)
 pub width-pos : (r : Filter) (k : ℕ) → 0 < width_at r k
 width-pos r k = omega (arith, width_is r k)
 
-pub fresh-3 : (r : Filter) (k : ℕ) → Sizes r.start r.f r.regime → 3 ≤ fresh_at r k
+pub fresh_3 : (r : Filter) (k : ℕ) → Sizes r.start r.f r.regime → 3 ≤ fresh_at r k
 unfolding fresh_at
-fresh-3 r k z = omega arith
+fresh_3 r k z = omega arith
 
-pub width-26 : (r : Filter) (k : ℕ) → Sizes r.start r.f r.regime → k ≤ 20 → width_at r k ≤ 26
+pub width_26 : (r : Filter) (k : ℕ) → Sizes r.start r.f r.regime → k ≤ 20 → width_at r k ≤ 26
 unfolding fresh_at width_at
-width-26 r k z h = omega (arith, extra-le r.regime (k - r.start) (omega arith))
+width_26 r k z h = omega (arith, extra-le r.regime (k - r.start) (omega arith))
 
 -- the width does not fall from one generation to the next
 pub width-rises : (r : Filter) (k : ℕ) → Sizes r.start r.f r.regime → r.start ≤ k → k < 20 → width_at r k ≤ width_at r (k + 1)
@@ -79,8 +79,8 @@ width-rises r k z l h =
 pub record PlaceFine (k last : ℕ) (p : Place) : Type 0 where
   pub above : last < p.b
   pub short : p.b ≤ k
-  pub s-3 : 3 ≤ p.s
-  pub s-b : p.s < p.b
+  pub s_3 : 3 ≤ p.s
+  pub s_b : p.s < p.b
   pub fits : p.count ≤ limit p.s
 
 -- the first of them, and the rest
@@ -100,8 +100,8 @@ place-fine k last p ps t =
       record {
         above = omega arith;
         short = leb→le _ _ (and_right (leb (last + 1) p.b) (leb p.b k) a);
-        s-3 = leb→le _ _ (and_left (leb 3 p.s) (leb p.s (p.b - 1)) b);
-        s-b = omega arith;
+        s_3 = leb→le _ _ (and_left (leb 3 p.s) (leb p.s (p.b - 1)) b);
+        s_b = omega arith;
         fits = leb→le _ _ (and_left C D t2);
       },
       and_right C D t2,
@@ -112,7 +112,7 @@ places-fine k last [] t = tt
 places-fine k last (p ∷ ps) t =
     let f = place-fine k last p ps t in (
       f.0,
-      all_map (PlaceFine k p.b) (PlaceFine k last) (λ q g. record { above = omega (arith, f.0.above, g.above); short = g.short; s-3 = g.s-3; s-b = g.s-b; fits = g.fits }) ps
+      all_map (PlaceFine k p.b) (PlaceFine k last) (λ q g. record { above = omega (arith, f.0.above, g.above); short = g.short; s_3 = g.s_3; s_b = g.s_b; fits = g.fits }) ps
           (places-fine k p.b ps f.1),
     )
 
@@ -128,7 +128,7 @@ unfolding words_taken sum
 words-few k last [] t h = omega (arith, pow_mono {i = last} {j = k} h)
 words-few k last (p ∷ ps) t h =
     let f = place-fine k last p ps t in
-    omega (arith, words-few k p.b ps f.1 f.0.short, halves p.b p.s last f.0.s-b f.0.above)
+    omega (arith, words-few k p.b ps f.1 f.0.short, halves p.b p.s last f.0.s_b f.0.above)
   where
     halves : (b s l : ℕ) → s < b → l < b → 2 ^ s + 2 ^ l ≤ 2 ^ b
     halves zero s l x y = absurd (omega arith)
@@ -139,49 +139,49 @@ words-few k last (p ∷ ps) t h =
 pub record Bounds (r : Filter) : Type 0 where
   pub settings : Sizes r.start r.f r.regime
   pub k_3 : 3 ≤ r.k
-  pub k-20 : r.k ≤ 20
-  pub start-k : r.start ≤ r.k
+  pub k_20 : r.k ≤ 20
+  pub start_k : r.start ≤ r.k
   pub generation : r.k - r.start < 18
   pub slots : 2 ^ r.k ≤ 1048576
-  pub fresh-3 : 3 ≤ fresh r
-  pub fresh-width : fresh r < width r
+  pub fresh_3 : 3 ≤ fresh r
+  pub fresh_width : fresh r < width r
   pub width_is : width r ≡ fresh r + 1
-  pub width-4 : 4 ≤ width r
-  pub width-26 : width r ≤ 26
-  pub used-limit : r.used ≤ limit r.k
-  pub limit-slots : limit r.k < 2 ^ r.k
-  pub queued-small : r.queued ≤ 1048576
+  pub width_4 : 4 ≤ width r
+  pub width_26 : width r ≤ 26
+  pub used_limit : r.used ≤ limit r.k
+  pub limit_slots : limit r.k < 2 ^ r.k
+  pub queued_small : r.queued ≤ 1048576
   pub places : All (PlaceFine r.k 5) (in_use r)
-  pub places-15 : length (in_use r) ≤ 15
-  pub annex-slots : annex_used r ≤ 2 ^ r.k
-  pub annex-small : annex_used r ≤ 1048576
+  pub places_15 : length (in_use r) ≤ 15
+  pub annex_slots : annex_used r ≤ 2 ^ r.k
+  pub annex_small : annex_used r ≤ 1048576
 
 pub bounds : (r : Filter) → T (record_right r) → Bounds r
 bounds r t =
     let v = ranges r t in
     let z = sizes r.start r.f r.regime v.settings in
-    let big : 2 ^ r.k ≤ 1048576 = pow_mono {i = r.k} {j = 20} v.high-k in
+    let big : 2 ^ r.k ≤ 1048576 = pow_mono {i = r.k} {j = 20} v.high_k in
     let few = annex-few v.places in
-    let f3 : 3 ≤ fresh r = fresh-3 r r.k z in
+    let f3 : 3 ≤ fresh r = fresh_3 r r.k z in
     record {
       settings = z;
-      k_3 = omega (arith, z.start-3, v.low-k);
-      k-20 = v.high-k;
-      start-k = v.low-k;
-      generation = omega (arith, z.start-3, v.high-k);
+      k_3 = omega (arith, z.start_3, v.low_k);
+      k_20 = v.high_k;
+      start_k = v.low_k;
+      generation = omega (arith, z.start_3, v.high_k);
       slots = big;
-      fresh-3 = f3;
-      fresh-width = width-fresh r r.k;
+      fresh_3 = f3;
+      fresh_width = width-fresh r r.k;
       width_is = width_is r r.k;
-      width-4 = omega (arith, width_is r r.k);
-      width-26 = width-26 r r.k z v.high-k;
-      used-limit = v.used-fits;
-      limit-slots = limit-lt r.k;
-      queued-small = v.queue-fits;
+      width_4 = omega (arith, width_is r r.k);
+      width_26 = width_26 r r.k z v.high_k;
+      used_limit = v.used_fits;
+      limit_slots = limit-lt r.k;
+      queued_small = v.queue_fits;
       places = places-fine r.k 5 (in_use r) v.places;
-      places-15 = omega (arith, few.0, v.high-k);
-      annex-slots = few.1;
-      annex-small = omega (arith, few.1);
+      places_15 = omega (arith, few.0, v.high_k);
+      annex_slots = few.1;
+      annex_small = omega (arith, few.1);
     }
   where
     annex-few : T (places_right r.k 5 (in_use r)) → (length (in_use r) ≤ r.k - 5) × (annex_used r ≤ 2 ^ r.k)

@@ -99,7 +99,7 @@ module _ (r : Filter) (main queue annex : List ℕ) (h : ℕ) where
         let d = given-done n (inserted r main queue annex h) (refused r main queue annex n) refl z in
         let a = asked-zero r main queue annex _ d.0 in
         let b = refusal-zero (not (eqb r.used (limit r.k))) 4 [] a.2 in
-        (d.1, insert-fine r main queue annex h (decode main) v (test-less r.used (limit r.k) v.used-fits b.0))
+        (d.1, insert-fine r main queue annex h (decode main) v (test-less r.used (limit r.k) v.used_fits b.0))
 
     pub insert-good : (insert r main queue annex h).number ≡ 0 → GoodOutcome (insert r main queue annex h)
     unfolding inserted
@@ -121,7 +121,7 @@ module _ (r : Filter) (main queue annex : List ℕ) (h : ℕ) where
           its = found r main queue annex h (decode main) v (ltb→lt 0 (length (matches_in r main h)) b.0);
           room = λ e.
               let n = neither (best_is_void r main h) (eqb r.queued (2 ^ 20)) (eqb r.queued (length queue)) c.0 (eq_test _ _ e) in
-              (test-less r.queued (2 ^ 20) v.queue-fits n.0, test-less r.queued (length queue) v.queue_long n.1);
+              (test-less r.queued (2 ^ 20) v.queue_fits n.0, test-less r.queued (length queue) v.queue_long n.1);
         }
 
     pub delete-done : (delete r main queue annex h).number ≡ 0 → Deletes (delete r main queue annex h)

@@ -31,7 +31,7 @@ use Rattle.keeps.proofs.Holds.{Holds, laid_out}
 use Rattle.keeps.proofs.State.{Address, Fine}
 use Rattle.keeps.proofs.Bounds.{Sizes, sizes, width-pos, width-rises}
 use Rattle.keeps.proofs.Entries.{passes-lt}
-use Rattle.keeps.proofs.Annex.{Tables, zeros}
+use Rattle.keeps.proofs.Annex.{Tables}
 use Rattle.keeps.proofs.Mothers.{mothers-low}
 use Rattle.keeps.proofs.Parts.{Parts, tables-of}
 use Rattle.keeps.proofs.Halves.{all_append, total-half, get_or-half, half-tombstones, half-rises, half-passes}
@@ -72,7 +72,7 @@ module _ (r : Filter) (main queue annex : List ℕ) (v : Fine r main queue annex
   wp = width-pos r r.k
 
   wv : w ≤ w₂
-  wv = width-rises r r.k z v.low-k k19
+  wv = width-rises r r.k z v.low_k k19
 
   small : All (All (λ p. p < 2 ^ w)) runs
   small = all_map (All (λ p. T (main_entry w r.k p))) (All (λ p. p < 2 ^ w)) (all_map (λ p. T (main_entry w r.k p)) (λ p. p < 2 ^ w) (passes-lt w r.k)) runs v.table.passes
@@ -94,8 +94,8 @@ module _ (r : Filter) (main queue annex : List ℕ) (v : Fine r main queue annex
   few₂ =
       omega (
         arith,
-        limit-double r.k (omega (arith, z.start-3, v.low-k)),
-        v.used-fits,
+        limit-double r.k (omega (arith, z.start_3, v.low_k)),
+        v.used_fits,
         v.table.counted,
         ap total halves,
         total-append (map (half_run w w₂ 0) runs) (map (half_run w w₂ 1) runs),
@@ -176,10 +176,10 @@ module _ (r : Filter) (main queue annex : List ℕ) (v : Fine r main queue annex
   from-tables us rest annex₂ dir tv gains fr be an =
       record {
         settings = v.settings;
-        low-k = omega (arith, v.low-k);
-        high-k = omega arith;
-        used-fits = few₂;
-        queue-fits = omega arith;
+        low_k = omega (arith, v.low_k);
+        high_k = omega arith;
+        used_fits = few₂;
+        queue_fits = omega arith;
         queue_long = omega arith;
         are = tv;
         places = fr;

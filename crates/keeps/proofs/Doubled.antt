@@ -73,8 +73,8 @@ module _ (r : Filter) (main queue annex : List ℕ) (v : Fine r main queue annex
 
     pub sized : Sized r.k (length ms) s
     sized =
-        size-for (length ms) r.k (omega (arith, (sizes r.start r.f r.regime v.settings).start-3, v.low-k)) v.high-k
-        (omega (arith, ap length e, hashes-few (width r) r.k 0 (decode main), v.table.counted, v.used-fits))
+        size-for (length ms) r.k (omega (arith, (sizes r.start r.f r.regime v.settings).start_3, v.low_k)) v.high_k
+        (omega (arith, ap length e, hashes-few (width r) r.k 0 (decode main), v.table.counted, v.used_fits))
 
     pub holds : Made (r.k + 1) s ms (table_of (r.k + 1) s ms)
     holds =
@@ -86,8 +86,8 @@ module _ (r : Filter) (main queue annex : List ℕ) (v : Fine r main queue annex
         record {
           above = omega arith;
           short = omega arith;
-          s-3 = sized.low;
-          s-b = omega (arith, sized.high);
+          s_3 = sized.low;
+          s_b = omega (arith, sized.high);
           fits = omega (arith, sized.fits, holds.counted);
           size = holds.size;
           rises = holds.rises;
@@ -170,10 +170,10 @@ module _ (r : Filter) (main queue annex second : List ℕ) where
       let e = refusal-zero (sound r main queue annex) 3 _ c.1 in
       let f = refusal-zero (eqb r.queued 0) 7 _ e.1 in
       let h = refusal-zero (room_for r main queue annex (hashes r main queue annex)) 9 [] f.1 in
-      let g : Good r main queue annex = record { record-right = a.0; slices-right = and_left A B c.0; is-sound = e.0 } in
+      let g : Good r main queue annex = record { record-right = a.0; slices-right = and_left A B c.0; is_sound = e.0 } in
       record {
         state = g;
-        less = below r.k (fine r main queue annex g).high-k b.0;
+        less = below r.k (fine r main queue annex g).high_k b.0;
         empty = eqb→eq r.queued 0 f.0;
         long = eqb→eq (length second) (2 ^ (r.k + 1)) (and_right A B c.0);
         room = h.0;

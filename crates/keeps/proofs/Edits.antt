@@ -44,14 +44,14 @@ module _ (r : Filter) (main queue annex : List ℕ) (runs : Runs) (v : Fine r ma
       (all_set Rises runs c run v.table.rises ri) (all_set (All (λ p. T (main_entry (width r) r.k p))) runs c run v.table.passes pa) in
       record {
         settings = v.settings;
-        low-k = v.low-k;
-        high-k = v.high-k;
-        used-fits = fu;
-        queue-fits = n1;
+        low_k = v.low_k;
+        high_k = v.high_k;
+        used_fits = fu;
+        queue_fits = n1;
         queue_long = n2;
         places = v.places;
         zeros = v.zeros;
-        annex-long = v.annex-long;
+        annex_long = v.annex_long;
         annex-right = v.annex-right;
         table = record { size = t.size; held = t.held; laid = t.laid; rises = t.rises; passes = t.passes; counted = tot; room = t.room };
         queue-right = qr;
@@ -75,7 +75,7 @@ module _ (r : Filter) (main queue annex : List ℕ) (runs : Runs) (v : Fine r ma
       → Fine (change r r.k u r.queued r.dir) (layout (set runs c run)) queue annex (set runs c run)
   edited-only ri pa eu fu ct cv =
       let a = v.address c h in
-      edited r.queued queue ri pa eu fu v.queue-fits v.queue_long v.queue-right
+      edited r.queued queue ri pa eu fu v.queue_fits v.queue_long v.queue-right
       (record { tombstones = ct ∙ a.tombstones; voids = cv ∙ a.voids }) (λ d ne. (refl, refl))
 
   -- one word more, which names c

@@ -34,13 +34,13 @@ use Rattle.keeps.proofs.Settle.{first, last, all_done, settled-fine, settled-pla
 use Rattle.keeps.proofs.Doubled.{DoubleHad, number-had, length-second, doubled-places}
 
 pub record Lengths (main queue annex : List ℕ) (o : Outcome) : Type 0 where
-  pub main-kept : length o.main ≡ length main
-  pub queue-kept : length o.queue ≡ length queue
-  pub annex-kept : length o.annex ≡ length annex
+  pub main_kept : length o.main ≡ length main
+  pub queue_kept : length o.queue ≡ length queue
+  pub annex_kept : length o.annex ≡ length annex
 
 pub refused-lengths : (r : Filter) (main queue annex : List ℕ) (n : ℕ) → Lengths main queue annex (refused r main queue annex n)
 unfolding refused
-refused-lengths r main queue annex n = record { main-kept = refl; queue-kept = refl; annex-kept = refl }
+refused-lengths r main queue annex n = record { main_kept = refl; queue_kept = refl; annex_kept = refl }
 
 -- what holds if the number is 0, and of the refusal otherwise
 pub given-either : (P : Outcome → Type 0) (n : ℕ) (done other : Outcome) → (n ≡ 0 → P done) → P other → P (give n done other)
@@ -58,7 +58,7 @@ module _ (r : Filter) (main queue annex : List ℕ) (h : ℕ) where
   unfolding insert
   insert-lengths =
       given-either (Lengths main queue annex) (insert_number r main queue annex) (inserted r main queue annex h) (refused r main queue annex (insert_number r main queue annex))
-      (λ _. unfold inserted in record { main-kept = run_length main (home r h) _; queue-kept = refl; annex-kept = refl })
+      (λ _. unfold inserted in record { main_kept = run_length main (home r h) _; queue_kept = refl; annex_kept = refl })
       (refused-lengths r main queue annex (insert_number r main queue annex))
 
   deleted-lengths : Lengths main queue annex (deleted r main queue annex h)
@@ -67,9 +67,9 @@ module _ (r : Filter) (main queue annex : List ℕ) (h : ℕ) where
       go : Dec (best r main h ≡ void (width r)) → Lengths main queue annex (deleted r main queue annex h)
       go (yes q) =
           subst (Lengths main queue annex) (sym (deleted-void r main queue annex h q))
-          (record { main-kept = run_length main (home r h) _; queue-kept = length-set queue r.queued (home r h * 2); annex-kept = refl })
+          (record { main_kept = run_length main (home r h) _; queue_kept = length-set queue r.queued (home r h * 2); annex_kept = refl })
       go (no q) =
-          subst (Lengths main queue annex) (sym (deleted-bits r main queue annex h q)) (record { main-kept = run_length main (home r h) _; queue-kept = refl; annex-kept = refl })
+          subst (Lengths main queue annex) (sym (deleted-bits r main queue annex h q)) (record { main_kept = run_length main (home r h) _; queue_kept = refl; annex_kept = refl })
 
   pub delete-lengths : Lengths main queue annex (delete r main queue annex h)
   unfolding delete
@@ -81,8 +81,8 @@ module _ (r : Filter) (main queue annex : List ℕ) (h : ℕ) where
   rejuvenated-lengths = go (dec_lt (length_of (width r) (best r main h)) (fresh r))
     where
       voids : (b : Bool) → Lengths main queue annex (renewing r main queue annex h b)
-      voids true = record { main-kept = run_length main (home r h) _; queue-kept = length-set queue r.queued (home r h * 2 + 1); annex-kept = refl }
-      voids false = record { main-kept = run_length main (home r h) _; queue-kept = refl; annex-kept = refl }
+      voids true = record { main_kept = run_length main (home r h) _; queue_kept = length-set queue r.queued (home r h * 2 + 1); annex_kept = refl }
+      voids false = record { main_kept = run_length main (home r h) _; queue_kept = refl; annex_kept = refl }
 
       go : Dec (length_of (width r) (best r main h) < fresh r) → Lengths main queue annex (rejuvenated r main queue annex h)
       go (yes l) = subst (Lengths main queue annex) (sym (renewed r main queue annex h l)) (voids (best_is_void r main h))
@@ -101,7 +101,7 @@ unfolding start
 start-lengths power f regime main queue annex =
     let n = start_number power f regime (length main) in
     given-either (Lengths main queue annex) n (record { number = 0; rec = started power f regime; main = replicate (2 ^ power) 0; queue = queue; annex = annex }) (refused all_zero main queue annex n)
-    (λ e. record { main-kept = length-replicate (2 ^ power) 0 ∙ sym (right e); queue-kept = refl; annex-kept = refl })
+    (λ e. record { main_kept = length-replicate (2 ^ power) 0 ∙ sym (right e); queue_kept = refl; annex_kept = refl })
     (refused-lengths all_zero main queue annex n)
   where
     right : start_number power f regime (length main) ≡ 0 → length main ≡ 2 ^ power
@@ -141,8 +141,8 @@ module _ (r : Filter) (main queue annex : List ℕ) where
       (written r.k 5 x.annex [] (all_done r main queue annex g).are).long ∙ settled-used (width r) (take r.queued queue) (first r main queue annex)
       ∙ ap words_taken (tables-of v).of in
       let many : length (table_words x.annex ++ drop (annex_used r) annex) ≡ length annex =
-      length-append (table_words x.annex) (drop (annex_used r) annex) ∙ omega (arith, used, length-drop (annex_used r) annex, v.annex-long) in
-      record { main-kept = length-words (settled-fine r main queue annex g).table ∙ sym (length-words v.table); queue-kept = refl; annex-kept = many }
+      length-append (table_words x.annex) (drop (annex_used r) annex) ∙ omega (arith, used, length-drop (annex_used r) annex, v.annex_long) in
+      record { main_kept = length-words (settled-fine r main queue annex g).table ∙ sym (length-words v.table); queue_kept = refl; annex_kept = many }
 
   pub settle-lengths : Lengths main queue annex (settle r main queue annex)
   unfolding settle
@@ -194,7 +194,7 @@ module _ (r : Filter) (main queue annex : List ℕ) where
       accepted : DoubleHad r main queue annex second → Lengths main queue annex (doubled_outcome r main queue annex)
       accepted d =
           unfold doubled_outcome in
-          record { main-kept = refl; queue-kept = refl; annex-kept = annex-length (hashes r main queue annex) (fine r main queue annex d.state).annex-long d.room }
+          record { main_kept = refl; queue_kept = refl; annex_kept = annex-length (hashes r main queue annex) (fine r main queue annex d.state).annex_long d.room }
 
   pub second-length : (second : List ℕ) → length (second_main r main queue annex second) ≡ length second
   unfolding second_main

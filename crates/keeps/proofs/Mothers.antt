@@ -51,7 +51,7 @@ abbrev pub changed : Table → ℕ → (List ℕ → List ℕ) → Table
 changed t x f = record { b = t.b; s = t.s; runs = at x f t.runs }
 
 -- .. where mother hash m has its slot
-module _ (t : Table) (x m a : ℕ) (s-b : t.s ≤ t.b) (n18 : t.b - t.s < 18) (slot : x < length t.runs) (hm : m < 2 ^ t.b) (hx : m % 2 ^ t.s ≡ x) where
+module _ (t : Table) (x m a : ℕ) (s_b : t.s ≤ t.b) (n18 : t.b - t.s < 18) (slot : x < length t.runs) (hm : m < 2 ^ t.b) (hx : m % 2 ^ t.s ≡ x) where
   abbrev run : List ℕ
   run = get_or t.runs x []
 
@@ -75,10 +75,10 @@ module _ (t : Table) (x m a : ℕ) (s-b : t.s ≤ t.b) (n18 : t.b - t.s < 18) (s
       go (no e) = ap₂ (λ (l : List ℕ) (n : ℕ). count p l + n) (get_or-set_other t.runs x (a % 2 ^ t.s) (f run) [] e) (there e)
 
   is-there : a % 2 ^ t.s ≡ x → is p q ≡ is (a % 2 ^ t.b) m
-  is-there e = hash-is t.b t.s (a % 2 ^ t.b) m s-b n18 (mod-lt a (pow_pos t.b)) hm (mod_low a t.b t.s s-b ∙ e ∙ sym hx)
+  is-there e = hash-is t.b t.s (a % 2 ^ t.b) m s_b n18 (mod-lt a (pow_pos t.b)) hm (mod_low a t.b t.s s_b ∙ e ∙ sym hx)
 
   not_there : (a % 2 ^ t.s ≡ x → ⊥) → is (a % 2 ^ t.b) m ≡ 0
-  not_there ne = is-no (a % 2 ^ t.b) m (λ e. ne (sym (mod_low a t.b t.s s-b) ∙ ap (λ n. n % 2 ^ t.s) e ∙ hx))
+  not_there ne = is-no (a % 2 ^ t.b) m (λ e. ne (sym (mod_low a t.b t.s s_b) ∙ ap (λ n. n % 2 ^ t.s) e ∙ hx))
 
   -- m is taken
   pub matching-taken : 0 < count q run → matching a (changed t x (erase q)) + is (a % 2 ^ t.b) m ≡ matching a t
@@ -106,5 +106,5 @@ mothers-low k last a c [] v e = refl
 mothers-low k last a c (t ∷ ts) v e =
     let f = v.0 in
     ap₂ ◌+◌
-    (ap₂ (λ (x y : ℕ). count (hash_entry t.b t.s x) (get_or t.runs y [])) (low_bits t.b k a c f.short e) (low_bits t.s k a c (omega (arith, f.short, f.s-b)) e))
+    (ap₂ (λ (x y : ℕ). count (hash_entry t.b t.s x) (get_or t.runs y [])) (low_bits t.b k a c f.short e) (low_bits t.s k a c (omega (arith, f.short, f.s_b)) e))
     (mothers-low k t.b a c ts v.1 e)

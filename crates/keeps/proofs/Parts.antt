@@ -21,10 +21,10 @@ use Rattle.keeps.proofs.Annex.{Tables, Read, read, written}
 
 pub record Parts (r : Filter) (main queue annex rest : List ℕ) (runs : Runs) (ts : List Table) : Type 0 where
   pub settings : T (settings_right r.start r.f r.regime)
-  pub low-k : r.start ≤ r.k
-  pub high-k : r.k ≤ 20
-  pub used-fits : r.used ≤ limit r.k
-  pub queue-fits : r.queued ≤ 2 ^ 20
+  pub low_k : r.start ≤ r.k
+  pub high_k : r.k ≤ 20
+  pub used_fits : r.used ≤ limit r.k
+  pub queue_fits : r.queued ≤ 2 ^ 20
   pub queue_long : r.queued ≤ length queue
   pub are : Tables r.k 5 ts
   pub places : in_use r ≡ map place_of ts
@@ -43,14 +43,14 @@ parts-fine {r} {main} {queue} {annex} {rest} {runs} {ts} v =
     let w = written r.k 5 ts rest v.are in
     record {
       settings = v.settings;
-      low-k = v.low-k;
-      high-k = v.high-k;
-      used-fits = v.used-fits;
-      queue-fits = v.queue-fits;
+      low_k = v.low_k;
+      high_k = v.high_k;
+      used_fits = v.used_fits;
+      queue_fits = v.queue_fits;
       queue_long = v.queue_long;
       places = subst (λ (x : List Place). T (places_right r.k 5 x)) (sym v.places) w.places;
       zeros = v.zeros;
-      annex-long = omega (arith, ap words_taken v.places, ap length v.words, length-append (table_words ts) rest, w.long);
+      annex_long = omega (arith, ap words_taken v.places, ap length v.words, length-append (table_words ts) rest, w.long);
       annex-right = rw (v.places, v.words) w.right;
       table = v.table;
       queue-right = v.queue-right;
@@ -58,4 +58,4 @@ parts-fine {r} {main} {queue} {annex} {rest} {runs} {ts} v =
     }
 
 pub tables-of : {r : Filter} {main queue annex : List ℕ} {runs : Runs} → Fine r main queue annex runs → Read r.k 5 (in_use r) annex
-tables-of {r} {main} {queue} {annex} v = read r.k 5 (in_use r) annex v.places v.annex-right v.annex-long
+tables-of {r} {main} {queue} {annex} v = read r.k 5 (in_use r) annex v.places v.annex-right v.annex_long

@@ -25,7 +25,7 @@ use Rattle.rules.specs.Calls.{Outcome}
 use Rattle.rules.specs.Quick.{home, fresh_entry, matches_in, best, inserted}
 use Rattle.keeps.proofs.Holds.{run-read}
 use Rattle.keeps.proofs.State.{Good, Fine}
-use Rattle.keeps.proofs.Bounds.{sizes, fresh-3, width-fresh, width-pos}
+use Rattle.keeps.proofs.Bounds.{sizes, fresh_3, width-fresh, width-pos}
 use Rattle.keeps.proofs.Entries.{passes, passes-lt, all-count, Best, hits-best}
 use Rattle.keeps.proofs.Edits.{edited-only, edited-queue}
 
@@ -50,14 +50,14 @@ is-fresh r main queue annex runs v h =
     let l = fresh r in
     let lt : l < w = width-fresh r r.k in
     let z = sizes r.start r.f r.regime v.settings in
-    let f3 : 3 ≤ l = fresh-3 r r.k z in
+    let f3 : 3 ≤ l = fresh_3 r r.k z in
     let small = fresh-lt w l r.k h lt in
     let rest = fresh-rest w l r.k h lt in
     record {
       small = small;
       rest = rest;
       bits = omega (arith, rest, f3);
-      passed = passes w r.k (fresh_entry r h) small (λ _. omega (arith, f3, z.start-3, v.low-k, fresh-length w l r.k h lt));
+      passed = passes w r.k (fresh_entry r h) small (λ _. omega (arith, f3, z.start_3, v.low_k, fresh-length w l r.k h lt));
     }
 
 -- ---- INSERT
@@ -149,7 +149,7 @@ module _ (r : Filter) (main queue annex : List ℕ) (h : ℕ) (runs : Runs) (v :
       let t = total-set runs c (erase p run) (omega (arith, v.table.size, home-lt r h)) in
       edited-only r main queue annex runs v c (home-lt r h) (erase p run) (r.used - 1)
       (rises-erase p run f.rises) (all-erase Passed p run f.passed)
-      (omega (arith, one_less, v.table.counted)) (omega (arith, v.used-fits))
+      (omega (arith, one_less, v.table.counted)) (omega (arith, v.used_fits))
       (count-erase-other p (tombstone w) run (bits-tombstone w p b)) (count-erase-other p (void w) run (bits-void w p wpos b))
 
   -- DELETE of a void
@@ -162,7 +162,7 @@ module _ (r : Filter) (main queue annex : List ℕ) (h : ℕ) (runs : Runs) (v :
       (rises-add q (erase p run) (rises-erase p run f.rises))
       (all-add Passed q (erase p run) (passes w r.k q (tombstone-lt w) (λ l. absurd (omega (arith, tombstone-rest w)))) (all-erase Passed p run f.passed))
       (omega (arith, one_less, length-add q (erase p run)))
-      v.used-fits
+      v.used_fits
       (omega (arith, count_add q q (erase p run), is-yes q q refl, is-yes (c * 2) (c * 2) refl, count-erase-other p q run (λ x. void-tombstone w wpos (sym e ∙ sym x))))
       (omega (arith, count_add q (void w) (erase p run), is-no (void w) q (void-tombstone w wpos), ap (λ x. count (void w) (erase x run)) e, count_erase_self (void w) run))
 
@@ -187,7 +187,7 @@ module _ (r : Filter) (main queue annex : List ℕ) (h : ℕ) (runs : Runs) (v :
       (set runs (home r h) (add (fresh_entry r h) (erase p (get_or runs (home r h) []))))
   renewed-bits ne =
       let b : 1 < rest_of w p = bits_of r h p run f ne in
-      edited-only r main queue annex runs v c (home-lt r h) (add q (erase p run)) r.used again again-passes as_many v.used-fits
+      edited-only r main queue annex runs v c (home-lt r h) (add q (erase p run)) r.used again again-passes as_many v.used_fits
       (omega (arith, count_add q (tombstone w) (erase p run), is-no (tombstone w) q (bits-tombstone w q fr.bits), count-erase-other p (tombstone w) run (bits-tombstone w p b)))
       (omega (arith, count_add q (void w) (erase p run), is-no (void w) q (bits-void w q wpos fr.bits), count-erase-other p (void w) run (bits-void w p wpos b)))
 
@@ -195,7 +195,7 @@ module _ (r : Filter) (main queue annex : List ℕ) (h : ℕ) (runs : Runs) (v :
       → Fine (change r r.k r.used (r.queued + 1) r.dir) (layout (set runs (home r h) (add (fresh_entry r h) (erase p (get_or runs (home r h) [])))))
       (set queue r.queued (home r h * 2 + 1)) annex (set runs (home r h) (add (fresh_entry r h) (erase p (get_or runs (home r h) []))))
   renewed-void e n1 n2 =
-      edited-queue r main queue annex runs v c (home-lt r h) (add q (erase p run)) r.used (c * 2 + 1) (omega arith) n1 n2 again again-passes as_many v.used-fits
+      edited-queue r main queue annex runs v c (home-lt r h) (add q (erase p run)) r.used (c * 2 + 1) (omega arith) n1 n2 again again-passes as_many v.used_fits
       (omega (
         arith,
         count_add q (tombstone w) (erase p run),

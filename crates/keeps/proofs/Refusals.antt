@@ -59,17 +59,17 @@ given-refused (suc n) d o e ne = refl
 
 -- a refused call changes nothing
 pub record Unchanged (r : Filter) (main queue annex : List ℕ) (o : Outcome) : Type 0 where
-  pub same-record : o.rec ≡ r
-  pub same-main : o.main ≡ main
+  pub same_record : o.rec ≡ r
+  pub same_main : o.main ≡ main
   pub same_queue : o.queue ≡ queue
-  pub same-annex : o.annex ≡ annex
+  pub same_annex : o.annex ≡ annex
 
 pub unchanged : (r : Filter) (main queue annex : List ℕ) (o : Outcome) (n : ℕ) → o ≡ refused r main queue annex n → Unchanged r main queue annex o
 unfolding refused
 unchanged r main queue annex o n e =
     record {
-      same-record = ap (λ (o : Outcome). o.rec) e;
-      same-main = ap (λ (o : Outcome). o.main) e;
+      same_record = ap (λ (o : Outcome). o.rec) e;
+      same_main = ap (λ (o : Outcome). o.main) e;
       same_queue = ap (λ (o : Outcome). o.queue) e;
-      same-annex = ap (λ (o : Outcome). o.annex) e;
+      same_annex = ap (λ (o : Outcome). o.annex) e;
     }

@@ -138,12 +138,12 @@ module _ (r : Filter) (main queue annex : List ℕ) where
 
     pub all_done : Mid (width r) r.k last []
     all_done =
-        words-done (width r) r.k v.high-k (take r.queued queue) first
+        words-done (width r) r.k v.high_k (take r.queued queue) first
         (record {
           size = v.table.size;
           rises = v.table.rises;
           passes = v.table.passes;
-          few = omega (arith, v.table.counted, v.used-fits);
+          few = omega (arith, v.table.counted, v.used_fits);
           are = (tables-of v).are;
           voids = λ a h. (v.address a h).voids;
         })
@@ -187,10 +187,10 @@ module _ (r : Filter) (main queue annex : List ℕ) where
         let n : ℕ = 15 - length (trim (map place_of last.annex)) in
         record {
           settings = v.settings;
-          low-k = v.low-k;
-          high-k = v.high-k;
-          used-fits = omega (arith, fewer, all_done.few);
-          queue-fits = omega arith;
+          low_k = v.low_k;
+          high_k = v.high_k;
+          used_fits = omega (arith, fewer, all_done.few);
+          queue_fits = omega arith;
           queue_long = omega arith;
           are = tr.are;
           places = ap (λ (ps : List Place). places_in_use (ps ++ replicate n no_place)) tr.places ∙ places_in_use-tables r.k 5 n tr.left tr.are;
@@ -212,7 +212,7 @@ module _ (r : Filter) (main queue annex : List ℕ) where
 
     pub settled-places : length (settled r main queue annex (held_after r main queue annex)).rec.dir ≡ 15
     unfolding held_after settled change
-    settled-places = fifteen-places r.k (trim (map place_of last.annex)) tables-left.left tables-left.places tables-left.are v.high-k
+    settled-places = fifteen-places r.k (trim (map place_of last.annex)) tables-left.left tables-left.places tables-left.are v.high_k
 
     settled-voids : (a : ℕ) → a < 2 ^ r.k
         → count (void (width r)) (get_or (decode (settled r main queue annex last).main) a []) ≡ mothers_of a (tables (in_use (settled r main queue annex last).rec) (settled r main queue annex last).annex)

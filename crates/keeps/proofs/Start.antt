@@ -61,10 +61,10 @@ module _ (power f regime : ℕ) (main queue annex : List ℕ) where
       let z = sizes power f regime t in
       record {
         settings = t;
-        low-k = omega arith;
-        high-k = omega (arith, z.start-10);
-        used-fits = omega arith;
-        queue-fits = omega arith;
+        low_k = omega arith;
+        high_k = omega (arith, z.start_10);
+        used_fits = omega arith;
+        queue_fits = omega arith;
         queue_long = omega arith;
         are = tt;
         places = unfold front in refl;

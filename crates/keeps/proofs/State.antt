@@ -25,15 +25,15 @@ use Rattle.keeps.proofs.Holds.{Holds, length-words, length-decode, holds-right, 
 pub record Good (r : Filter) (main queue annex : List ℕ) : Type 0 where
   pub record-right : T (record_right r)
   pub slices-right : T (slices_right r (length main) (length queue) (length annex))
-  pub is-sound : T (sound r main queue annex)
+  pub is_sound : T (sound r main queue annex)
 
 -- the record alone
 pub record Ranges (r : Filter) : Type 0 where
   pub settings : T (settings_right r.start r.f r.regime)
-  pub low-k : r.start ≤ r.k
-  pub high-k : r.k ≤ 20
-  pub used-fits : r.used ≤ limit r.k
-  pub queue-fits : r.queued ≤ 2 ^ 20
+  pub low_k : r.start ≤ r.k
+  pub high_k : r.k ≤ 20
+  pub used_fits : r.used ≤ limit r.k
+  pub queue_fits : r.queued ≤ 2 ^ 20
   pub places : T (places_right r.k 5 (in_use r))
   pub zeros : T (every zero_place (places_not_in_use r.dir))
 
@@ -53,10 +53,10 @@ ranges r g =
     let b = and_left B (C && (D && (E && F))) g1 in
     record {
       settings = and_left A (B && (C && (D && (E && F)))) g;
-      low-k = leb→le _ _ (and_left (leb r.start r.k) (leb r.k 20) b);
-      high-k = leb→le _ _ (and_right (leb r.start r.k) (leb r.k 20) b);
-      used-fits = leb→le _ _ (and_left C (D && (E && F)) g2);
-      queue-fits = leb→le _ _ (and_left D (E && F) g3);
+      low_k = leb→le _ _ (and_left (leb r.start r.k) (leb r.k 20) b);
+      high_k = leb→le _ _ (and_right (leb r.start r.k) (leb r.k 20) b);
+      used_fits = leb→le _ _ (and_left C (D && (E && F)) g2);
+      queue_fits = leb→le _ _ (and_left D (E && F) g3);
       places = and_left E F g4;
       zeros = and_right E F g4;
     }
@@ -71,15 +71,15 @@ ranged r v =
     let E = places_right r.k 5 (in_use r) in
     let F = every zero_place (places_not_in_use r.dir) in
     and_both A (B && (C && (D && (E && F)))) v.settings
-    (and_both B (C && (D && (E && F))) (and_both (leb r.start r.k) (leb r.k 20) (le→leb _ _ v.low-k) (le→leb _ _ v.high-k))
-    (and_both C (D && (E && F)) (le→leb _ _ v.used-fits)
-    (and_both D (E && F) (le→leb _ _ v.queue-fits) (and_both E F v.places v.zeros))))
+    (and_both B (C && (D && (E && F))) (and_both (leb r.start r.k) (leb r.k 20) (le→leb _ _ v.low_k) (le→leb _ _ v.high_k))
+    (and_both C (D && (E && F)) (le→leb _ _ v.used_fits)
+    (and_both D (E && F) (le→leb _ _ v.queue_fits) (and_both E F v.places v.zeros))))
 
 -- the lengths
 pub record Long (r : Filter) (main queue annex : List ℕ) : Type 0 where
-  pub main-long : length main ≡ 2 ^ r.k
+  pub main_long : length main ≡ 2 ^ r.k
   pub queue_long : r.queued ≤ length queue
-  pub annex-long : annex_used r ≤ length annex
+  pub annex_long : annex_used r ≤ length annex
 
 pub long : (r : Filter) (main queue annex : List ℕ) → T (slices_right r (length main) (length queue) (length annex)) → Long r main queue annex
 unfolding slices_right
@@ -88,7 +88,7 @@ long r main queue annex s =
     let Y = leb r.queued (length queue) in
     let Z = leb (annex_used r) (length annex) in
     let t = and_right X (Y && Z) s in
-    record { main-long = eqb→eq _ _ (and_left X (Y && Z) s); queue_long = leb→le _ _ (and_left Y Z t); annex-long = leb→le _ _ (and_right Y Z t) }
+    record { main_long = eqb→eq _ _ (and_left X (Y && Z) s); queue_long = leb→le _ _ (and_left Y Z t); annex_long = leb→le _ _ (and_right Y Z t) }
 
 -- one address
 pub record Address (w : ℕ) (ts : List Table) (ws : List ℕ) (c : ℕ) (run : List ℕ) : Type 0 where
@@ -111,14 +111,14 @@ right-address w ts ws c run t =
 -- the whole state
 pub record Fine (r : Filter) (main queue annex : List ℕ) (runs : Runs) : Type 0 where
   pub settings : T (settings_right r.start r.f r.regime)
-  pub low-k : r.start ≤ r.k
-  pub high-k : r.k ≤ 20
-  pub used-fits : r.used ≤ limit r.k
-  pub queue-fits : r.queued ≤ 2 ^ 20
+  pub low_k : r.start ≤ r.k
+  pub high_k : r.k ≤ 20
+  pub used_fits : r.used ≤ limit r.k
+  pub queue_fits : r.queued ≤ 2 ^ 20
   pub queue_long : r.queued ≤ length queue
   pub places : T (places_right r.k 5 (in_use r))
   pub zeros : T (every zero_place (places_not_in_use r.dir))
-  pub annex-long : annex_used r ≤ length annex
+  pub annex_long : annex_used r ≤ length annex
   pub annex-right : T (annex_right (in_use r) annex)
   pub table : Holds (main_entry (width r) r.k) r.k r.used main runs
   pub queue-right : All (λ w. w / 2 < 2 ^ r.k) (take r.queued queue)
@@ -135,26 +135,26 @@ fine r main queue annex g =
     let Q = annex_right (in_use r) annex in
     let R = queue_right r queue in
     let S = addresses_right r main queue annex in
-    let m1 = and_right P (Q && (R && S)) g.is-sound in
+    let m1 = and_right P (Q && (R && S)) g.is_sound in
     let m2 = and_right Q (R && S) m1 in
     record {
       settings = v.settings;
-      low-k = v.low-k;
-      high-k = v.high-k;
-      used-fits = v.used-fits;
-      queue-fits = v.queue-fits;
+      low_k = v.low_k;
+      high_k = v.high_k;
+      used_fits = v.used_fits;
+      queue_fits = v.queue_fits;
       queue_long = l.queue_long;
       places = v.places;
       zeros = v.zeros;
-      annex-long = l.annex-long;
+      annex_long = l.annex_long;
       annex-right = and_left Q (R && S) m1;
-      table = right-holds (main_entry (width r) r.k) r.k r.used main l.main-long (omega (arith, v.used-fits, limit-lt r.k)) (and_left P (Q && (R && S)) g.is-sound);
+      table = right-holds (main_entry (width r) r.k) r.k r.used main l.main_long (omega (arith, v.used_fits, limit-lt r.k)) (and_left P (Q && (R && S)) g.is_sound);
       queue-right =
           all_map (λ w. T (ltb (w / 2) (2 ^ r.k))) (λ w. w / 2 < 2 ^ r.k) (λ w t. ltb→lt (w / 2) (2 ^ r.k) t) ws
           (every-all (λ w. ltb (w / 2) (2 ^ r.k)) ws (and_left R S m2));
       address = λ c h.
           right-address (width r) ts ws c (get_or (decode main) c [])
-          (places-get (address_right (width r) ts ws) (decode main) [] (and_right R S m2) c (omega (arith, length-decode main, l.main-long)));
+          (places-get (address_right (width r) ts ws) (decode main) [] (and_right R S m2) c (omega (arith, length-decode main, l.main_long)));
     }
 
 pub good : (r : Filter) (main queue annex : List ℕ) (runs : Runs) → Fine r main queue annex runs → Good r main queue annex
@@ -165,9 +165,9 @@ good r main queue annex runs v =
     let Z = leb (annex_used r) (length annex) in
     record {
       record-right = ranged r
-          (record { settings = v.settings; low-k = v.low-k; high-k = v.high-k; used-fits = v.used-fits; queue-fits = v.queue-fits; places = v.places; zeros = v.zeros });
-      slices-right = and_both X (Y && Z) (eq_test _ _ (length-words v.table)) (and_both Y Z (le→leb _ _ v.queue_long) (le→leb _ _ v.annex-long));
-      is-sound =
+          (record { settings = v.settings; low_k = v.low_k; high_k = v.high_k; used_fits = v.used_fits; queue_fits = v.queue_fits; places = v.places; zeros = v.zeros });
+      slices-right = and_both X (Y && Z) (eq_test _ _ (length-words v.table)) (and_both Y Z (le→leb _ _ v.queue_long) (le→leb _ _ v.annex_long));
+      is_sound =
           and_both (main_right r main) (annex_right (in_use r) annex && (queue_right r queue && addresses_right r main queue annex)) (holds-right v.table)
           (and_both (annex_right (in_use r) annex) (queue_right r queue && addresses_right r main queue annex) v.annex-right
           (and_both (queue_right r queue) (addresses_right r main queue annex)

@@ -56,8 +56,8 @@ module _ (k l c : ℕ) (t : Table) (f : TableFine k l t) where
       record {
         above = f.above;
         short = f.short;
-        s-3 = f.s-3;
-        s-b = f.s-b;
+        s_3 = f.s_3;
+        s_b = f.s_b;
         fits = omega (arith, f.fits, total-set rs x (erase p run) slot_lt, same_length run (p ∷ erase p run) (erase_same p run m));
         size = length-set rs x (erase p run) ∙ f.size;
         rises = all_set Rises rs x (erase p run) f.rises (rises-erase p run (all-get Rises rs [] f.rises x slot_lt));
@@ -69,8 +69,8 @@ module _ (k l c : ℕ) (t : Table) (f : TableFine k l t) where
   pub without-matching : k ≤ 20 → 0 < matching c t → (a : ℕ) → matching a (without t c) + is (a % 2 ^ t.b) (c % 2 ^ t.b) ≡ matching a t
   unfolding matching
   without-matching k20 m a =
-      matching-taken t (c % 2 ^ t.s) (c % 2 ^ t.b) a (omega (arith, f.s-b)) (omega (arith, f.short, f.s-3)) slot_lt (mod-lt c (pow_pos t.b))
-      (mod_low c t.b t.s (omega (arith, f.s-b))) m
+      matching-taken t (c % 2 ^ t.s) (c % 2 ^ t.b) a (omega (arith, f.s_b)) (omega (arith, f.short, f.s_3)) slot_lt (mod-lt c (pow_pos t.b))
+      (mod_low c t.b t.s (omega (arith, f.s_b))) m
 
 -- ---- the longest match
 

@@ -1,3 +1,5 @@
+#![tactic(auto)]
+
 // Every exported function: Query on bytes for the front page, and the calls on a record that the host lends and that is updated in place.
 ghost use Rattle.std.specs.Prelude.{◌≡◌};
 ghost use Rattle.rules.specs.Quick.{query};
@@ -5,6 +7,7 @@ ghost use Rattle.rules.specs.Lookups.{bytes_number, query_bytes};
 ghost use Rattle.filter.specs.Plain.{plain};
 ghost use Rattle.filter.specs.Promises.{Leaves, Inserts, Deletes, Rejuvenates, Audits, Settles, Doubles};
 ghost use Rattle.filter.specs.Restart.{restart};
+ghost use Rattle.filter.specs.Widths.{width_asked};
 
 use filter::Record;
 
@@ -38,7 +41,7 @@ pub extern "C" fn kj_query_bytes(k: u32, w: u32, hash: u64, main: &[u8]) -> u32
     0
 }
 
-// THE LENT RECORD. Each function hands the record to the call by value, and stores the record that it answers.
+// THE LENT RECORD. Each function is that of crate `thin`, under its name for C.
 
 #[unsafe(no_mangle)]
 pub extern "C" fn kj_start(
@@ -54,16 +57,22 @@ pub extern "C" fn kj_start(
         (restart (plain r.old) power f regime main.old queue.old annex.old)
         result (plain r.new) main.new queue.new annex.new }
 {
-    let a = (*r).restart(main, queue, annex, power, f, regime);
-    *r = a.rec;
-    a.number
+    thin::start(r, main, queue, annex, power, f, regime)
+}
+
+// What kj_query_bytes takes besides k.
+#[unsafe(no_mangle)]
+pub extern "C" fn kj_width(r: &Record) -> u32
+    ensures { result ≡ width_asked (plain r.now) }
+{
+    thin::width(r)
 }
 
 #[unsafe(no_mangle)]
 pub extern "C" fn kj_query(r: &Record, main: &[u32], queue: &[u32], annex: &[u32], hash: u64) -> u32
     ensures { result ≡ query (plain r.now) main.now queue.now annex.now hash }
 {
-    (*r).query(main, queue, annex, hash)
+    thin::query(r, main, queue, annex, hash)
 }
 
 #[unsafe(no_mangle)]
@@ -77,9 +86,7 @@ pub extern "C" fn kj_insert(
     ensures { Inserts (plain r.old) main.old queue.old annex.old hash
         result (plain r.new) main.new queue.new annex.new }
 {
-    let a = (*r).insert(main, queue, annex, hash);
-    *r = a.rec;
-    a.number
+    thin::insert(r, main, queue, annex, hash)
 }
 
 #[unsafe(no_mangle)]
@@ -93,9 +100,7 @@ pub extern "C" fn kj_delete(
     ensures { Deletes (plain r.old) main.old queue.old annex.old hash
         result (plain r.new) main.new queue.new annex.new }
 {
-    let a = (*r).delete(main, queue, annex, hash);
-    *r = a.rec;
-    a.number
+    thin::delete(r, main, queue, annex, hash)
 }
 
 #[unsafe(no_mangle)]
@@ -109,9 +114,7 @@ pub extern "C" fn kj_rejuvenate(
     ensures { Rejuvenates (plain r.old) main.old queue.old annex.old hash
         result (plain r.new) main.new queue.new annex.new }
 {
-    let a = (*r).rejuvenate(main, queue, annex, hash);
-    *r = a.rec;
-    a.number
+    thin::rejuvenate(r, main, queue, annex, hash)
 }
 
 #[unsafe(no_mangle)]
@@ -124,9 +127,7 @@ pub extern "C" fn kj_audit(
     ensures { Audits (plain r.old) main.old queue.old annex.old
         result (plain r.new) main.new queue.new annex.new }
 {
-    let a = (*r).audited(main, queue, annex);
-    *r = a.rec;
-    a.number
+    thin::audit(r, main, queue, annex)
 }
 
 #[unsafe(no_mangle)]
@@ -139,9 +140,7 @@ pub extern "C" fn kj_settle(
     ensures { Settles (plain r.old) main.old queue.old annex.old
         result (plain r.new) main.new queue.new annex.new }
 {
-    let a = (*r).settle(main, queue, annex);
-    *r = a.rec;
-    a.number
+    thin::settle(r, main, queue, annex)
 }
 
 #[unsafe(no_mangle)]
@@ -155,7 +154,5 @@ pub extern "C" fn kj_double(
     ensures { Doubles (plain r.old) main.old queue.old annex.old second.old
         result (plain r.new) main.new queue.new annex.new second.new }
 {
-    let a = (*r).double(main, queue, annex, second);
-    *r = a.rec;
-    a.number
+    thin::double(r, main, queue, annex, second)
 }

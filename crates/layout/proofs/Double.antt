@@ -1,7 +1,7 @@
 -- How a circle doubles: each run c gives one at c and one at c + N. Where nothing waits in the old circle, nothing waits at either place of the new one.
 use mathlib.Core.Path.{◌≡◌, ap, ◌∙◌}
 use mathlib.Core.List.{List, [], ◌∷◌, ◌++◌, map}
-use Prim.Native.Nat.{ℕ, ◌+◌, ◌-◌, ◌≤◌}
+use Prim.Native.Nat.{ℕ, ◌≤◌}
 use native.Mathlib.Omega.{arith}
 use lib.ListN.{length}
 use Rattle.layout.specs.Machine.{Entry, rest, scan, left, pend, layout}

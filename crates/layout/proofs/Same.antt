@@ -349,7 +349,7 @@ pub record Empty (runs : List (List ℕ)) : Type 0 where
   pub slot : ℕ
   pub within : slot < length runs
   pub no_run : get_or runs slot [] ≡ []
-  pub no-carry : carry runs slot ≡ 0
+  pub no_carry : carry runs slot ≡ 0
   pub word : get_or (layout runs) slot 0 ≡ 0
   pub next : carry runs (suc slot % length runs) ≡ 0
 
@@ -373,7 +373,7 @@ empty-slot runs h = go (lap runs (pend runs))
           slot = e;
           within = hs;
           no_run = g;
-          no-carry = c;
+          no_carry = c;
           word = layout-at runs h e hs ∙ ap₂ emit q g ∙ none-stored;
           next = carry-next runs e h ∙ ap₂ (λ (x : ℕ) (y : ℕ). carry runs x + length (get_or runs y []) - 1) m m ∙ (omega (arith, c, ap length g));
         }

@@ -1,3 +1,5 @@
+#![tactic(auto)]
+
 // One table of words, main or annex, read only: what is in the run of an address.
 ghost use Rattle.std.specs.Prelude.{◌≡◌, true, false, cond, suc, ◌≤◌, ◌<◌, ltb, leb, length, get_or};
 ghost use Rattle.slots.specs.Payload.{matches};
@@ -6,7 +8,7 @@ ghost use Rattle.layout.specs.Reading.{run_from, index};
 ghost use Rattle.lists.specs.Runs.{count};
 ghost use Rattle.lookup.specs.Spots.{Spotted, Missing, LastSpotted, LastMissing, First};
 
-#[derive(Drop)]
+#[derive(Clone, Copy)]
 pub struct Step {
     pub more: bool,
     pub payload: u32,
@@ -100,7 +102,7 @@ fn one(b: bool) -> usize
     if b { 1 } else { 0 }
 }
 
-#[derive(Drop)]
+#[derive(Clone, Copy)]
 pub struct Spot {
     pub found: bool,
     pub slot: usize,
@@ -220,7 +222,7 @@ pub fn count_in_run(ws: &[u32], c: usize, x: u32) -> usize
     count_from(ws, b, f, x)
 }
 
-#[derive(Drop)]
+#[derive(Clone, Copy)]
 pub struct Match {
     pub found: bool,
     pub payload: u32,
@@ -266,7 +268,7 @@ fn first_from(ws: &[u32], b: usize, from: usize, w: u32, k: u32, hash: u64) -> M
     }
 }
 
-#[derive(Drop)]
+#[derive(Clone, Copy)]
 pub struct RunPlace {
     pub home: usize,
     pub from: usize,

@@ -1,3 +1,5 @@
+#![tactic(auto)]
+
 // One table of words kept as bytes, four a slot, lowest first, read only: the first match of a hash, by the walk of `lookup`.
 ghost use Rattle.std.specs.Prelude.{◌≡◌, map, reverse, suc, ◌+◌, ◌*◌, ◌-◌, ◌≤◌, ◌<◌, length, get_or};
 ghost use Rattle.lists.specs.Lists.{sum};
@@ -111,7 +113,7 @@ fn seek(bytes: &[u8], b: usize, m: usize) -> usize
     n - b + far.steps
 }
 
-#[derive(Drop)]
+#[derive(Clone, Copy)]
 struct RunPlace {
     home: usize,
     from: usize,

@@ -1,3 +1,5 @@
+#![tactic(auto)]
+
 // Single places of the annex directory: the place of a length and its part of the annex, one table more, empty tables dropped, a count replaced.
 ghost use Rattle.std.specs.Prelude.{◌≡◌, ◌∷◌, [], ◌++◌, ℕ, ◌+◌, ◌*◌, ◌≤◌, ◌<◌, T, length, get_or, set};
 ghost use Rattle.lists.specs.Lists.{every};

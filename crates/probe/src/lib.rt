@@ -1,3 +1,5 @@
+#![tactic(auto)]
+
 // The functions of one table, for a host that tests and measures them: each tests its arguments, and calls.
 
 // The changes answer 1 for true, 0 for false, and 9 where they refuse the call.

@@ -1,3 +1,5 @@
+#![tactic(auto)]
+
 // An entry goes from a table of words, and each behind it that is not at home moves one slot to the left. On any words the loops go over the circle at most once.
 ghost use Rattle.std.specs.Prelude.{◌≡◌, ◌+◌, ◌-◌, ◌*◌, ◌/◌, ◌%◌, ◌≤◌, ◌<◌, length, take, drop};
 ghost use Rattle.layout.specs.Decode.{turn, entry};

@@ -1,6 +1,6 @@
 -- Document 01, "What the calls do": "An annex table for length b follows its predecessor directly. .. It is laid out as above with payload width 18 and
 -- fingerprint length b-s".
-use Rattle.std.specs.Prelude.{ℕ, ◌+◌, ◌-◌, ◌/◌, ◌%◌, ◌^◌, List, [], ◌∷◌, ◌++◌, get_or, take, drop}
+use Rattle.std.specs.Prelude.{ℕ, ◌-◌, ◌/◌, ◌%◌, ◌^◌, List, [], ◌∷◌, ◌++◌, get_or, take, drop}
 use Rattle.lists.specs.Lists.{sum}
 use Rattle.lists.specs.Runs.{Runs, count, total}
 use Rattle.slots.specs.Payload.{pay}

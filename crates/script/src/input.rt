@@ -3,35 +3,42 @@ ghost use Rattle.std.specs.Prelude.{◌<◌};
 
 use directory::Place;
 use filter::Record;
-use libc::STDIN_FILENO;
+use std::io::{self, Read};
+
+// Where the numbers are read from, and the bytes that were read last.
+#[derive(Drop)]
+pub struct Buffer<R> {
+    from: R,
+    bytes: [u8; 65536],
+}
 
 // The next place of the buffer, how many of its bytes were read, and whether all that was asked for was there.
-#[derive(Drop)]
+#[derive(Clone, Copy)]
 pub struct Source {
     pub at: usize,
     pub filled: usize,
     pub right: bool,
 }
 
-#[derive(Drop)]
+#[derive(Clone, Copy)]
 struct Byte {
     value: u8,
     rest: Source,
 }
 
-#[derive(Drop)]
+#[derive(Clone, Copy)]
 pub struct Number {
     pub value: u64,
     pub rest: Source,
 }
 
-#[derive(Drop)]
+#[derive(Clone, Copy)]
 pub struct Word {
     pub value: u32,
     pub rest: Source,
 }
 
-#[derive(Drop)]
+#[derive(Clone, Copy)]
 pub struct Three {
     pub a: u32,
     pub b: u32,
@@ -39,22 +46,31 @@ pub struct Three {
     pub rest: Source,
 }
 
-#[derive(Drop)]
+#[derive(Clone, Copy)]
 pub struct Count {
     pub value: usize,
     pub rest: Source,
 }
 
-#[derive(Drop)]
+#[derive(Clone, Copy)]
 struct Places {
     dir: [Place; 15],
     rest: Source,
 }
 
-#[derive(Drop)]
+#[derive(Clone, Copy)]
 pub struct Loaded {
     pub rec: Record,
     pub rest: Source,
+}
+
+impl<R: Read + Drop> Buffer<R> {
+    pub fn new(from: R) -> Buffer<R> {
+        Buffer {
+            from,
+            bytes: [0u8; 65536],
+        }
+    }
 }
 
 impl Source {
@@ -75,52 +91,52 @@ impl Source {
     }
 
     // Reads once more where the buffer is used up.
-    fn ready(self, buf: &mut [u8]) -> Source {
+    fn ready<R: Read>(self, buf: &mut Buffer<R>) -> io::Result<Source> {
         if self.at < self.filled {
-            return self;
+            return Ok(self);
         }
-        let got = libc::read(STDIN_FILENO, buf);
-        Source {
+        let filled = buf.from.read(&mut buf.bytes)?;
+        Ok(Source {
             at: 0,
-            filled: io::count(got, buf),
+            filled,
             right: self.right,
-        }
+        })
     }
 
     // The next byte, or 0 at the end of the input.
-    fn byte(self, buf: &mut [u8]) -> Byte {
-        let s = self.ready(buf);
+    fn byte<R: Read>(self, buf: &mut Buffer<R>) -> io::Result<Byte> {
+        let s = self.ready(buf)?;
         let at = s.at;
         if at < s.filled {
-            if at < buf.len() {
-                return Byte {
-                    value: buf[at],
+            if at < buf.bytes.len() {
+                return Ok(Byte {
+                    value: buf.bytes[at],
                     rest: Source {
                         at: at + 1,
                         filled: s.filled,
                         right: s.right,
                     },
-                };
+                });
             }
         }
-        Byte { value: 0, rest: s }
+        Ok(Byte { value: 0, rest: s })
     }
 
     // The first byte past spaces and line ends, of which there are at most 1,000 in a row.
-    fn past_blanks(self, buf: &mut [u8]) -> Byte {
-        let mut b = self.byte(buf);
+    fn past_blanks<R: Read>(self, buf: &mut Buffer<R>) -> io::Result<Byte> {
+        let mut b = self.byte(buf)?;
         let mut left: u32 = 1000;
         while 0 < left && is_blank(b.value) {
             let s = b.rest;
-            b = s.byte(buf);
+            b = s.byte(buf)?;
             left -= 1;
         }
-        b
+        Ok(b)
     }
 
     // A number below 2^64, of at most 20 digits, and the blank behind it.
-    pub fn number(self, buf: &mut [u8]) -> Number {
-        let mut b = self.past_blanks(buf);
+    pub fn number<R: Read>(self, buf: &mut Buffer<R>) -> io::Result<Number> {
+        let mut b = self.past_blanks(buf)?;
         let mut right = is_digit(b.value);
         let mut value: u64 = 0;
         let mut left: u32 = 20;
@@ -128,73 +144,73 @@ impl Source {
             right = right & has_room(value, b.value);
             value = longer(value, b.value);
             let s = b.rest;
-            b = s.byte(buf);
+            b = s.byte(buf)?;
             left -= 1;
         }
         let rest = b.rest;
         if right & is_blank(b.value) {
-            return Number { value, rest };
+            return Ok(Number { value, rest });
         }
-        Number {
+        Ok(Number {
             value: 0,
             rest: rest.wrong(),
-        }
+        })
     }
 
     // A number below 2^32.
-    pub fn word(self, buf: &mut [u8]) -> Word {
-        let n = self.number(buf);
+    pub fn word<R: Read>(self, buf: &mut Buffer<R>) -> io::Result<Word> {
+        let n = self.number(buf)?;
         let v = n.value;
         let rest = n.rest;
         if v < 4294967296 {
-            return Word {
+            return Ok(Word {
                 value: v as u32,
                 rest,
-            };
+            });
         }
-        Word {
+        Ok(Word {
             value: 0,
             rest: rest.wrong(),
-        }
+        })
     }
 
     // Three numbers below 2^32.
-    pub fn three(self, buf: &mut [u8]) -> Three {
-        let a = self.word(buf);
-        let b = a.rest.word(buf);
-        let c = b.rest.word(buf);
+    pub fn three<R: Read>(self, buf: &mut Buffer<R>) -> io::Result<Three> {
+        let a = self.word(buf)?;
+        let b = a.rest.word(buf)?;
+        let c = b.rest.word(buf)?;
         let rest = c.rest;
-        Three {
+        Ok(Three {
             a: a.value,
             b: b.value,
             c: c.value,
             rest,
-        }
+        })
     }
 
     // A number of words and then the words, as many as the memory has at most.
-    pub fn words(self, buf: &mut [u8], memory: &mut [u32]) -> Count {
-        let n = self.number(buf);
+    pub fn words<R: Read>(self, buf: &mut Buffer<R>, memory: &mut [u32]) -> io::Result<Count> {
+        let n = self.number(buf)?;
         let v = n.value as usize;
         let mut rest = n.rest;
         if memory.len() < v {
-            return Count {
+            return Ok(Count {
                 value: 0,
                 rest: rest.wrong(),
-            };
+            });
         }
         let mut i: usize = 0;
         while i < v {
-            let w = rest.word(buf);
+            let w = rest.word(buf)?;
             memory[i] = w.value;
             rest = w.rest;
             i += 1;
         }
-        Count { value: v, rest }
+        Ok(Count { value: v, rest })
     }
 
     // The three numbers of each of the fifteen places.
-    fn places(self, buf: &mut [u8]) -> Places {
+    fn places<R: Read>(self, buf: &mut Buffer<R>) -> io::Result<Places> {
         let mut dir = [Place {
             b: 0,
             s: 0,
@@ -203,7 +219,7 @@ impl Source {
         let mut rest = self;
         let mut i: usize = 0;
         while i < 15 {
-            let p = rest.three(buf);
+            let p = rest.three(buf)?;
             dir[i] = Place {
                 b: p.a,
                 s: p.b,
@@ -212,17 +228,17 @@ impl Source {
             rest = p.rest;
             i += 1;
         }
-        Places { dir, rest }
+        Ok(Places { dir, rest })
     }
 
     // The six numbers of a record and its directory.
-    pub fn record(self, buf: &mut [u8]) -> Loaded {
-        let r = self.three(buf);
-        let s = r.rest.three(buf);
-        let p = s.rest.places(buf);
+    pub fn record<R: Read>(self, buf: &mut Buffer<R>) -> io::Result<Loaded> {
+        let r = self.three(buf)?;
+        let s = r.rest.three(buf)?;
+        let p = s.rest.places(buf)?;
         let dir = p.dir;
         let rest = p.rest;
-        Loaded {
+        Ok(Loaded {
             rec: Record {
                 k: r.a,
                 start: r.b,
@@ -233,7 +249,7 @@ impl Source {
                 dir,
             },
             rest,
-        }
+        })
     }
 }
 

@@ -76,7 +76,7 @@ module _ {k w used queued : ℕ} {places : List Place} {main queue annex : List 
   r = g.r
 
   v : Fine r main queue annex (decode main)
-  v = fine r main queue annex (record { record-right = g.record-right; slices-right = g.slices-right; is-sound = g.is-sound })
+  v = fine r main queue annex (record { record-right = g.record-right; slices-right = g.slices-right; is_sound = g.is_sound })
 
   z : Bounds r
   z = bounds r g.record-right
@@ -89,29 +89,29 @@ module _ {k w used queued : ℕ} {places : List Place} {main queue annex : List 
   right-r =
       record {
         k_3 = z.k_3;
-        k-20 = z.k-20;
-        w_1 = omega (arith, z.width-4);
-        w-26 = z.width-26;
-        used-fits = v.used-fits;
-        main-long = length-words v.table;
+        k_20 = z.k_20;
+        w_1 = omega (arith, z.width_4);
+        w_26 = z.width_26;
+        used_fits = v.used_fits;
+        main_long = length-words v.table;
         main-right = holds-right v.table;
         directory = and_both (places_right r.k 5 (in_use r)) (every zero_place (places_not_in_use r.dir)) v.places v.zeros;
-        annex-long = v.annex-long;
+        annex_long = v.annex_long;
         annex-right = v.annex-right;
       }
 
   pub right : Right k w used main annex places
   right =
-      subst (λ (x : ℕ). Right x w used main annex places) n.k-is
-      (subst (λ (x : ℕ). Right r.k x used main annex places) n.w-is
-      (subst (λ (x : ℕ). Right r.k (width r) x main annex places) n.used-is
-      (subst (λ (x : List Place). Right r.k (width r) r.used main annex x) n.places-are right-r)))
+      subst (λ (x : ℕ). Right x w used main annex places) n.k_is
+      (subst (λ (x : ℕ). Right r.k x used main annex places) n.w_is
+      (subst (λ (x : ℕ). Right r.k (width r) x main annex places) n.used_is
+      (subst (λ (x : List Place). Right r.k (width r) r.used main annex x) n.places_are right-r)))
 
   pub queue_long : queued ≤ length queue
-  queue_long = omega (arith, v.queue_long, n.queued-is)
+  queue_long = omega (arith, v.queue_long, n.queued_is)
 
   pub queue-small : queued ≤ 1048576
-  queue-small = omega (arith, z.queued-small, n.queued-is)
+  queue-small = omega (arith, z.queued_small, n.queued_is)
 
   abbrev words : List ℕ
   words = take queued queue
@@ -119,12 +119,12 @@ module _ {k w used queued : ℕ} {places : List Place} {main queue annex : List 
   named : Named w words (decode main)
   named a l =
       let c = (v.address a (omega (arith, l, v.table.size))).tombstones in
-      ap (λ (x : ℕ). count (tombstone x) (get_or (decode main) a [])) (sym n.w-is) ∙ c ∙ ap (λ (x : ℕ). count (a * 2) (take x queue)) n.queued-is
+      ap (λ (x : ℕ). count (tombstone x) (get_or (decode main) a [])) (sym n.w_is) ∙ c ∙ ap (λ (x : ℕ). count (a * 2) (take x queue)) n.queued_is
 
   names : All (λ q. q / 2 < 2 ^ k) words
   names =
-      subst (λ (x : ℕ). All (λ q. q / 2 < 2 ^ x) words) n.k-is
-      (subst (λ (x : ℕ). All (λ q. q / 2 < 2 ^ r.k) (take x queue)) n.queued-is v.queue-right)
+      subst (λ (x : ℕ). All (λ q. q / 2 < 2 ^ x) words) n.k_is
+      (subst (λ (x : ℕ). All (λ q. q / 2 < 2 ^ r.k) (take x queue)) n.queued_is v.queue-right)
 
   -- what the queue words leave
   abbrev pub after : Held
@@ -143,10 +143,10 @@ module _ {k w used queued : ℕ} {places : List Place} {main queue annex : List 
     pub tombstones-ready : (w ≤ 26) × (1 < length main₁) × (length main₁ ≤ 1048576) × (queued ≤ 1048576) × (queued ≤ length queue)
         × T (every (λ q. ltb (q / 2) (length main₁)) words)
     tombstones-ready =
-        let l = hold.right.main-long in (
-          hold.right.w-26,
+        let l = hold.right.main_long in (
+          hold.right.w_26,
           omega (arith, l, size-8 k hold.right.k_3),
-          omega (arith, l, size-20 k hold.right.k-20),
+          omega (arith, l, size-20 k hold.right.k_20),
           queue-small,
           queue_long,
           all-every (λ q. ltb (q / 2) (length main₁)) words
@@ -186,11 +186,11 @@ module _ {k w used queued : ℕ} {places : List Place} {main queue annex : List 
       unfolding settled change
       leaves kept e s m =
           record {
-            main-is = main-left ∙ ap₂ (λ (x : ℕ) (y : Held). layout (no_tombstones x y.main)) (sym m.w-is) held;
-            annex-is = rd.words ∙ ap₂ (λ (x : List Table) (y : List ℕ). table_words x ++ y) tables-are hold.past
-                ∙ ap₂ (λ (y : Held) (d : List Place). table_words y.annex ++ drop (words_taken (places_in_use d)) annex) held (sym m.places-are);
-            used-is = here ∙ ap₂ (λ (x : ℕ) (y : Held). total (no_tombstones x y.main)) (sym m.w-is) held;
-            places-are = e ∙ ap (λ (x : List Place). fifteen (trim x)) (sym rd.of ∙ ap (map place_of) tables-are) ∙ ap (λ (y : Held). fifteen (trim (map place_of y.annex))) held;
+            main_is = main-left ∙ ap₂ (λ (x : ℕ) (y : Held). layout (no_tombstones x y.main)) (sym m.w_is) held;
+            annex_is = rd.words ∙ ap₂ (λ (x : List Table) (y : List ℕ). table_words x ++ y) tables-are hold.past
+                ∙ ap₂ (λ (y : Held) (d : List Place). table_words y.annex ++ drop (words_taken (places_in_use d)) annex) held (sym m.places_are);
+            used_is = here ∙ ap₂ (λ (x : ℕ) (y : Held). total (no_tombstones x y.main)) (sym m.w_is) held;
+            places_are = e ∙ ap (λ (x : List Place). fifteen (trim x)) (sym rd.of ∙ ap (map place_of) tables-are) ∙ ap (λ (y : Held). fifteen (trim (map place_of y.annex))) held;
           }
         where
           here : left - gone ≡ total (no_tombstones w after.main)
@@ -198,5 +198,5 @@ module _ {k w used queued : ℕ} {places : List Place} {main queue annex : List 
 
           held : after ≡ held_after s main queue annex
           held = unfold held_after in
-              ap₂ (λ (x y : ℕ). settle_all x (take y queue) (held_in main annex places)) (sym m.w-is) (sym m.queued-is)
-              ∙ ap (λ (d : List Place). settle_all (width s) (take s.queued queue) (held_in main annex d)) (sym m.places-are)
+              ap₂ (λ (x y : ℕ). settle_all x (take y queue) (held_in main annex places)) (sym m.w_is) (sym m.queued_is)
+              ∙ ap (λ (d : List Place). settle_all (width s) (take s.queued queue) (held_in main annex d)) (sym m.places_are)

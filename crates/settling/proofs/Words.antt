@@ -51,10 +51,10 @@ module _ (k w used : ℕ) (main annex : List ℕ) (places : List Place) (g : Rig
   rest = drop (words_taken ps) annex
 
   pub table : Holds (main_entry w k) k used main (decode main)
-  table = right-holds (main_entry w k) k used main g.main-long (omega (arith, g.used-fits, limit-lt k)) g.main-right
+  table = right-holds (main_entry w k) k used main g.main_long (omega (arith, g.used_fits, limit-lt k)) g.main-right
 
   pub is_read : Read k 5 ps annex
-  is_read = read k 5 ps annex (right-used k places g.directory) g.annex-right g.annex-long
+  is_read = read k 5 ps annex (right-used k places g.directory) g.annex-right g.annex_long
 
   pub placed : Placed places annex
   unfolding directory_right
@@ -62,9 +62,9 @@ module _ (k w used : ℕ) (main annex : List ℕ) (places : List Place) (g : Rig
       record {
         directory =
             and_both (places_right 20 5 ps) (every zero_place (places_not_in_use places))
-            (subst (λ (l : List Place). T (places_right 20 5 l)) is_read.of (written 20 5 ts rest (tables_more k 20 5 ts g.k-20 is_read.are)).places)
+            (subst (λ (l : List Place). T (places_right 20 5 l)) is_read.of (written 20 5 ts rest (tables_more k 20 5 ts g.k_20 is_read.are)).places)
             (right-rest k places g.directory);
-        long = g.annex-long;
+        long = g.annex_long;
       }
 
   module _ (c i : ℕ) (l : LongestAt c ts i) where
@@ -137,7 +137,7 @@ module _ (k w used : ℕ) (main annex : List ℕ) (places : List Place) (g : Rig
 
         new : Holds (main_entry w k) k (total runs) (layout runs) runs
         new =
-            laid_out (main_entry w k) k runs (cut-length w c t.b (decode main) ∙ table.size) (omega (arith, counted, g.used-fits, limit-lt k))
+            laid_out (main_entry w k) k runs (cut-length w c t.b (decode main) ∙ table.size) (omega (arith, counted, g.used_fits, limit-lt k))
             (cut_all w c t.b (decode main) Rises (λ run r. rises-erase (void w) run r) table.rises)
             (cut_all w c t.b (decode main) (All (λ p. T (main_entry w k p))) (λ run r. all-erase (λ p. T (main_entry w k p)) (void w) run r) table.passes)
 
@@ -147,17 +147,17 @@ module _ (k w used : ℕ) (main annex : List ℕ) (places : List Place) (g : Rig
             subst (λ (m : ℕ). T (table_right (main_entry w k) m main')) n (subst (λ (x : List ℕ). T (table_right (main_entry w k) (total runs) x)) (sym words) (holds-right new))
 
         module _ (annex' : List ℕ) (dir : List Place) (z : TakenAt places annex i c annex' dir) where
-          is-taken : T (taken (place_of (without t c)))
+          is_taken : T (taken (place_of (without t c)))
           unfolding place_of
-          is-taken = true-test (taken (place_of (without t c))) (ap not (ne_eqb t.b 0 (λ e. omega (arith, fine.above))))
+          is_taken = true-test (taken (place_of (without t c))) (ap not (ne_eqb t.b 0 (λ e. omega (arith, fine.above))))
 
           used-places : places_in_use dir ≡ map place_of us
           used-places =
-              ap places_in_use z.counts ∙ in-use-set places i (place_of (without t c)) in_use is-taken
+              ap places_in_use z.counts ∙ in-use-set places i (place_of (without t c)) in_use is_taken
               ∙ ap (λ (x : List Place). set x i (place_of (without t c))) (sym is_read.of) ∙ sym (map-set ts i (without t c))
 
           no-places : places_not_in_use dir ≡ places_not_in_use places
-          no-places = ap places_not_in_use z.counts ∙ rest-set places i (place_of (without t c)) in_use is-taken
+          no-places = ap places_not_in_use z.counts ∙ rest-set places i (place_of (without t c)) in_use is_taken
 
           wr : Written k 5 us rest
           wr = written k 5 us rest us-are
@@ -177,14 +177,14 @@ module _ (k w used : ℕ) (main annex : List ℕ) (places : List Place) (g : Rig
               record {
                 right = record {
                   k_3 = g.k_3;
-                  k-20 = g.k-20;
+                  k_20 = g.k_20;
                   w_1 = g.w_1;
-                  w-26 = g.w-26;
-                  used-fits = omega (arith, g.used-fits);
-                  main-long = ap length words ∙ length-words new;
+                  w_26 = g.w_26;
+                  used_fits = omega (arith, g.used_fits);
+                  main_long = ap length words ∙ length-words new;
                   main-right = main-right;
                   directory = directory;
-                  annex-long = omega (arith, taken-long, ap length z.words, length-append (table_words us) rest);
+                  annex_long = omega (arith, taken-long, ap length z.words, length-append (table_words us) rest);
                   annex-right = rw (used-places, z.words) wr.right;
                 };
                 holds = ap₂ (λ (x : Runs) (y : List Table). record { main = x; annex = y }) (ap decode words ∙ new.held) (ap₂ tables used-places z.words ∙ wr.back) ∙ sym is_word;

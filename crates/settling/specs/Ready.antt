@@ -9,11 +9,11 @@ use Rattle.rules.specs.Calls.{Outcome}
 
 -- these are the numbers of r
 pub record Numbers (r : Filter) (k w used queued : ℕ) (places : List Place) : Type 0 where
-  pub k-is : r.k ≡ k
-  pub w-is : width r ≡ w
-  pub used-is : r.used ≡ used
-  pub queued-is : r.queued ≡ queued
-  pub places-are : r.dir ≡ places
+  pub k_is : r.k ≡ k
+  pub w_is : width r ≡ w
+  pub used_is : r.used ≡ used
+  pub queued_is : r.queued ≡ queued
+  pub places_are : r.dir ≡ places
 
 -- they are the numbers of a record for which none of 2, 3 and 4 is given
 pub record Ready (k w used queued : ℕ) (places : List Place) (main queue annex : List ℕ) : Type 0 where
@@ -21,11 +21,11 @@ pub record Ready (k w used queued : ℕ) (places : List Place) (main queue annex
   pub numbers : Numbers r k w used queued places
   pub record-right : T (record_right r)
   pub slices-right : T (slices_right r (length main) (length queue) (length annex))
-  pub is-sound : T (sound r main queue annex)
+  pub is_sound : T (sound r main queue annex)
 
 -- the words and the numbers of an outcome
 pub record Leaves (o : Outcome) (main annex : List ℕ) (used : ℕ) (places : List Place) : Type 0 where
-  pub main-is : main ≡ o.main
-  pub annex-is : annex ≡ o.annex
-  pub used-is : used ≡ o.rec.used
-  pub places-are : places ≡ o.rec.dir
+  pub main_is : main ≡ o.main
+  pub annex_is : annex ≡ o.annex
+  pub used_is : used ≡ o.rec.used
+  pub places_are : places ≡ o.rec.dir

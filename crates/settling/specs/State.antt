@@ -20,14 +20,14 @@ held_in main annex places = record { main = decode main; annex = tables (places_
 -- main and annex are right, whatever the queue says
 pub record Right (k w used : ℕ) (main annex : List ℕ) (places : List Place) : Type 0 where
   pub k_3 : 3 ≤ k
-  pub k-20 : k ≤ 20
+  pub k_20 : k ≤ 20
   pub w_1 : 1 ≤ w
-  pub w-26 : w ≤ 26
-  pub used-fits : used ≤ limit k
-  pub main-long : length main ≡ 2 ^ k
+  pub w_26 : w ≤ 26
+  pub used_fits : used ≤ limit k
+  pub main_long : length main ≡ 2 ^ k
   pub main-right : T (table_right (main_entry w k) used main)
   pub directory : T (directory_right k places)
-  pub annex-long : words_taken (places_in_use places) ≤ length annex
+  pub annex_long : words_taken (places_in_use places) ≤ length annex
   pub annex-right : T (annex_right (places_in_use places) annex)
 
 -- .. and hold x; `rest` is what lies past the tables

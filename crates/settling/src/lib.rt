@@ -1,3 +1,5 @@
+#![tactic(auto)]
+
 // Settle on a right state: the queue words first to last, and then the tombstones.
 ghost use Rattle.std.specs.Prelude.{◌≡◌, ◌/◌, ◌^◌, ◌≤◌, ◌<◌, T, ltb, length, take, drop};
 ghost use Rattle.lists.specs.Lists.{every};
@@ -11,7 +13,7 @@ ghost use Rattle.settling.specs.Ready.{Numbers, Ready, Leaves};
 
 use directory::Place;
 
-#[derive(Drop)]
+#[derive(Clone, Copy)]
 pub struct Settled {
     pub used: u32,
     pub places: [Place; 15],

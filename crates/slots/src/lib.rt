@@ -1,3 +1,5 @@
+#![tactic(auto)]
+
 // One payload and one slot word.
 ghost use Rattle.std.specs.Prelude.{◌≡◌, ◌%◌, ◌^◌, ◌<◌, ◌≤◌};
 ghost use Rattle.slots.specs.Numbers.{limit, extra};
@@ -8,7 +10,7 @@ ghost use Rattle.slots.specs.Kinds.{kind_of};
 const EXTRA: [u32; 18] = [0, 2, 4, 4, 6, 6, 6, 6, 8, 8, 8, 8, 8, 8, 8, 8, 10, 10];
 
 // What the three low bits of a slot word say.
-#[derive(Drop)]
+#[derive(Clone, Copy)]
 pub enum Kind {
     Empty,
     StartAtHome,

@@ -159,8 +159,8 @@ power-low w y ey h = omega (arith, pow_mono {i = 4} {j = w} h)
 pub main-short : (w k e d : ℕ) → e ≡ 2 ^ w → d ≡ 2 ^ (6 - k) → allowed (record { from = 0; below = e - d; also = e - 2; end = e }) ≡ main_entry w k
 main-short w k e d a b = rw (a, b) (main-test w k)
 
-pub main-long : (w k e : ℕ) → e ≡ 2 ^ w → 6 ≤ k → allowed (record { from = 0; below = e - 1; also = e - 2; end = e }) ≡ main_entry w k
-main-long w k e a h =
+pub main_long : (w k e : ℕ) → e ≡ 2 ^ w → 6 ≤ k → allowed (record { from = 0; below = e - 1; also = e - 2; end = e }) ≡ main_entry w k
+main_long w k e a h =
     let z : 6 - k ≡ 0 = omega arith in
     let o : 1 ≡ 2 ^ (6 - k) = sym (ap (λ (x : ℕ). 2 ^ x) z ∙ pow-zero 2) in
     main-short w k e 1 a o

@@ -53,7 +53,7 @@ later-end l j h = ap (λ (x : List ℕ). mores (map entry x)) (lib.ListN.drop_of
 pub record Going (words : List ℕ) (c k t v j a b : ℕ) : Type 0 where
   pub ahead : k ≤ j
   pub few : a ≤ j
-  pub few-voids : b ≤ j
+  pub few_voids : b ≤ j
   pub len : length (read_at words c k) + k ≡ j + length (later (turn c words) j)
   pub tombstones : count t (read_at words c k) ≡ a + count t (later (turn c words) j)
   pub voids : count v (read_at words c k) ≡ b + count v (later (turn c words) j)
@@ -83,7 +83,7 @@ module _ (words : List ℕ) (c k t v i a b : ℕ) (hc : c < length words) (hk : 
       record {
         ahead = omega arith;
         few = omega arith;
-        few-voids = omega arith;
+        few_voids = omega arith;
         len = omega (arith, ap length first);
         tombstones = ap (count t) first ∙ ap (λ (x : ℕ). x + count t l) (sym ea.0);
         voids = ap (count v) first ∙ ap (λ (x : ℕ). x + count v l) (sym eb.0);
@@ -116,7 +116,7 @@ module _ (words : List ℕ) (c k t v j i a b : ℕ) (hc : c < length words) (hj 
       record {
         ahead = omega (arith, g.ahead);
         few = omega (arith, g.few);
-        few-voids = omega (arith, g.few-voids);
+        few_voids = omega (arith, g.few_voids);
         len = omega (arith, g.len, ap length e);
         tombstones = omega (arith, g.tombstones);
         voids = omega (arith, g.voids);

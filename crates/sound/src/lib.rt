@@ -1,3 +1,5 @@
+#![tactic(auto)]
+
 // The audit of one table: is it the layout of what it decodes to, and what a run holds.
 ghost use Rattle.std.specs.Prelude.{◌≡◌, ℕ, ◌/◌, ◌≤◌, ◌<◌, eqb, length, get_or};
 ghost use Rattle.lists.specs.Lists.{bit};
@@ -8,7 +10,7 @@ ghost use Rattle.sound.specs.Lap.{no_entry, an_entry, step, fits, start};
 ghost use Rattle.sound.specs.Reading.{Read};
 
 // The payloads that a table may hold: those from `from` below `below`, and those from `also` below `end`.
-#[derive(Drop)]
+#[derive(Clone, Copy)]
 pub struct Spans {
     pub from: u32,
     pub below: u32,
@@ -63,7 +65,7 @@ fn is_allowed(t: Spans, p: u32) -> bool
 
 // Where the audit stands on its lap: `opened` occupied addresses are passed, `begun` runs have begun; `inside` says that the slot before holds an entry, with
 // payload `last`; `count` entries are passed. `good` says that the last slot's word may stand there.
-#[derive(Drop)]
+#[derive(Clone, Copy)]
 pub struct Lap {
     pub good: bool,
     pub opened: u32,
@@ -199,7 +201,7 @@ fn one_if(w: u32, p: u32) -> u32
 }
 
 // The length of a run, and how many tombstones and voids it has.
-#[derive(Drop)]
+#[derive(Clone, Copy)]
 pub struct Found {
     pub len: usize,
     pub tombstones: u32,

@@ -1,3 +1,5 @@
+#![tactic(auto)]
+
 // One table of words, main or annex: its runs are changed by one entry.
 ghost use Rattle.std.specs.Prelude.{◌≡◌, true, false, List, [], ℕ, suc, ◌+◌, ◌*◌, ◌%◌, ◌≤◌, ◌<◌, T, length, get_or, set, replicate};
 ghost use Rattle.layout.specs.Machine.{layout};

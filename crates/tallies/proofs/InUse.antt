@@ -27,10 +27,10 @@ more-places k last (p ∷ ps) h t =
     let r = right-first k last p ps t in
     let few = leb p.count (limit p.s) && places_right 20 p.b ps in
     and_both (within (last + 1) 20 p.b) (within 3 (p.b - 1) p.s && few)
-    (and_both (leb (last + 1) p.b) (leb p.b 20) (le→leb (last + 1) p.b (omega (arith, r.b-low))) (le→leb p.b 20 (omega (arith, r.b-high))))
+    (and_both (leb (last + 1) p.b) (leb p.b 20) (le→leb (last + 1) p.b (omega (arith, r.b_low))) (le→leb p.b 20 (omega (arith, r.b_high))))
     (and_both (within 3 (p.b - 1) p.s) few
-    (and_both (leb 3 p.s) (leb p.s (p.b - 1)) (le→leb 3 p.s r.s-low) (le→leb p.s (p.b - 1) (omega (arith, r.s-high))))
-    (and_both (leb p.count (limit p.s)) (places_right 20 p.b ps) (le→leb p.count (limit p.s) r.count-high)
+    (and_both (leb 3 p.s) (leb p.s (p.b - 1)) (le→leb 3 p.s r.s_low) (le→leb p.s (p.b - 1) (omega (arith, r.s_high))))
+    (and_both (leb p.count (limit p.s)) (places_right 20 p.b ps) (le→leb p.count (limit p.s) r.count_high)
     (more-places k p.b ps h (right-next k last p ps t))))
 
 pub directory-20 : (k : ℕ) (places : List Place) → k ≤ 20 → T (directory_right k places) → T (directory_right 20 places)
@@ -68,13 +68,13 @@ module _ (places : List Place) (i : ℕ) (p : Place) (hi : i < length places) (e
       both = subst (All (RightPlace 20 5)) next-taken s.limits
 
       pub walk-least : 3 ≤ p.s
-      walk-least = both.0.s-low
+      walk-least = both.0.s_low
 
       pub walk-below : p.s < p.b
-      walk-below = both.0.s-high
+      walk-below = both.0.s_high
 
       pub walk-most : p.b ≤ 20
-      walk-most = both.0.b-high
+      walk-most = both.0.b_high
 
       pub walk-power : p.s ≤ 20
       walk-power = omega (arith, walk-below, walk-most)
@@ -98,7 +98,7 @@ module _ (places : List Place) (i : ℕ) (p : Place) (hi : i < length places) (e
         walk-size = ap length part-is ∙ length-take-le (2 ^ p.s) (drop at annex) (omega (arith, words_left, length-drop at annex))
 
         pub walk-few : p.count < length (take (at + size - at) (drop at annex))
-        walk-few = omega (arith, walk-size, both.0.count-high, limit-lt p.s)
+        walk-few = omega (arith, walk-size, both.0.count_high, limit-lt p.s)
 
         pub walk-on : Walk places annex (i + 1) (at + size)
         walk-on = record { limits = both.1; room = omega (arith, words_left) }

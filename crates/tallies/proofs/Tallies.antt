@@ -73,8 +73,8 @@ pub tallied-none : (n base : ℕ) → n ≡ block_size → Tallied base [] (repl
 unfolding count naming
 tallied-none n base e =
     record {
-      names-size = length-replicate n 0 ∙ e;
-      evens-size = length-replicate n 0 ∙ e;
+      names_size = length-replicate n 0 ∙ e;
+      evens_size = length-replicate n 0 ∙ e;
       named = λ i h. zeros n i;
       even = λ i h. zeros n i;
     }
@@ -107,8 +107,8 @@ module _ (base : ℕ) (ws names evens : List ℕ) (q : ℕ) (hb : base % block_s
   pub tallied-past : (get_or ws q 0 / 2 / block_size ≡ base / block_size → ⊥) → Tallied base (take (q + 1) ws) names evens
   tallied-past z =
       record {
-        names-size = t.names-size;
-        evens-size = t.evens-size;
+        names_size = t.names_size;
+        evens_size = t.evens_size;
         named = λ j h. t.named j h ∙ sym (other_name j (λ x. z (same_block base (get_or ws q 0 / 2) hb j h x)));
         even = λ j h. t.even j h ∙ sym (other-even j (λ x. z (same_block base (get_or ws q 0 / 2) hb j h x)));
       }
@@ -124,7 +124,7 @@ module _ (base : ℕ) (ws names evens : List ℕ) (q : ℕ) (hb : base % block_s
     name : (j : ℕ) → j < block_size → Dec (j ≡ i) → get_or (set names i (get_or names i 0 + 1)) j 0 ≡ naming (base + j) (take (q + 1) ws)
     name j h (yes z) =
         let g : get_or (set names i (get_or names i 0 + 1)) j 0 ≡ get_or names i 0 + 1 =
-        ap (λ (k : ℕ). get_or (set names i (get_or names i 0 + 1)) k 0) z ∙ get_or-set_same names i (get_or names i 0 + 1) 0 (omega (arith, small, t.names-size)) in
+        ap (λ (k : ℕ). get_or (set names i (get_or names i 0 + 1)) k 0) z ∙ get_or-set_same names i (get_or names i 0 + 1) 0 (omega (arith, small, t.names_size)) in
         let o : is (base + j) (get_or ws q 0 / 2) ≡ 1 = is-yes (base + j) (get_or ws q 0 / 2) (omega (arith, home)) in
         let u : get_or names i 0 ≡ naming (base + j) (take q ws) = ap (λ (k : ℕ). get_or names k 0) (sym z) ∙ t.named j h in
         omega (arith, naming-next (base + j) ws q hq)
@@ -134,7 +134,7 @@ module _ (base : ℕ) (ws names evens : List ℕ) (q : ℕ) (hb : base % block_s
     evened : (j : ℕ) → j < block_size → Dec (j ≡ i) → get_or (set evens i (get_or evens i 0 + e)) j 0 ≡ count ((base + j) * 2) (take (q + 1) ws)
     evened j h (yes z) =
         let g : get_or (set evens i (get_or evens i 0 + e)) j 0 ≡ get_or evens i 0 + e =
-        ap (λ (k : ℕ). get_or (set evens i (get_or evens i 0 + e)) k 0) z ∙ get_or-set_same evens i (get_or evens i 0 + e) 0 (omega (arith, small, t.evens-size)) in
+        ap (λ (k : ℕ). get_or (set evens i (get_or evens i 0 + e)) k 0) z ∙ get_or-set_same evens i (get_or evens i 0 + e) 0 (omega (arith, small, t.evens_size)) in
         let o : is ((base + j) * 2) (get_or ws q 0) ≡ 1 - get_or ws q 0 % 2 = bit-even (base + j) (get_or ws q 0) (omega (arith, home)) in
         let u : get_or evens i 0 ≡ count ((base + j) * 2) (take q ws) = ap (λ (k : ℕ). get_or evens k 0) (sym z) ∙ t.even j h in
         let n = count_next ((base + j) * 2) ws q hq in
@@ -146,8 +146,8 @@ module _ (base : ℕ) (ws names evens : List ℕ) (q : ℕ) (hb : base % block_s
     tallied-on names' evens' en ev =
         rw (en, ev)
         (record {
-          names-size = simp length-set t.names-size;
-          evens-size = simp length-set t.evens-size;
+          names_size = simp length-set t.names_size;
+          evens_size = simp length-set t.evens_size;
           named = λ j h. name j h (ℕ_discrete j i);
           even = λ j h. evened j h (ℕ_discrete j i);
         })

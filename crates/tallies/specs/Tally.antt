@@ -11,8 +11,8 @@ block_size = 8192
 
 -- the counters of the block from base on, after these queue words
 pub record Tallied (base : ℕ) (ws names evens : List ℕ) : Type 0 where
-  pub names-size : length names ≡ block_size
-  pub evens-size : length evens ≡ block_size
+  pub names_size : length names ≡ block_size
+  pub evens_size : length evens ≡ block_size
   pub named : (i : ℕ) → i < block_size → get_or names i 0 ≡ naming (base + i) ws
   pub even : (i : ℕ) → i < block_size → get_or evens i 0 ≡ count ((base + i) * 2) ws
 

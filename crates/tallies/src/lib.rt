@@ -1,3 +1,5 @@
+#![tactic(auto)]
+
 // The counters of a block of addresses: queue words that name each address, and mother hashes that match it.
 ghost use Rattle.std.specs.Prelude.{◌≡◌, false, [], ◌+◌, ◌-◌, ◌/◌, ◌%◌, ◌^◌, ◌≤◌, ◌<◌, T, length, take};
 ghost use Rattle.directory.specs.Places.{places_in_use, directory_right, words_taken};

@@ -1,3 +1,5 @@
+#![tactic(auto)]
+
 // One table of words, main or annex, read only: the slots of its circle, and where the run of an address is.
 ghost use Rattle.std.specs.Prelude.{◌≡◌, map, reverse, suc, ◌+◌, ◌-◌, ◌/◌, ◌%◌, ◌≤◌, ◌<◌, length};
 ghost use Rattle.lists.specs.Lists.{sum};
@@ -43,7 +45,7 @@ pub fn begins(w: u32) -> usize
     (1 - w / 2 % 2) as usize
 }
 
-#[derive(Drop)]
+#[derive(Clone, Copy)]
 pub struct Home {
     pub steps: usize,
     pub runs: usize,
@@ -93,7 +95,7 @@ fn walk_home(ws: &[u32], c: usize) -> Home
     }
 }
 
-#[derive(Drop)]
+#[derive(Clone, Copy)]
 pub struct Skipped {
     pub steps: usize,
     pub togo: usize,
@@ -150,7 +152,7 @@ fn less(a: usize, b: usize) -> usize
     if a < b { 0 } else { a - b }
 }
 
-#[derive(Drop)]
+#[derive(Clone, Copy)]
 pub struct Run {
     pub home: usize,
     pub from: usize,

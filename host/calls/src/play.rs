@@ -106,7 +106,7 @@ fn bytes(model: &State, k: u32, w: u32, hash: u64, count: usize) -> Result<bool,
     Ok(true)
 }
 
-/// Numbers, records and all lent words of both.
+/// Numbers, records, widths and all lent words of both.
 fn same(model: &State, lent: &State, numbers: (u32, u32)) -> Result<(), String> {
     if numbers.0 != numbers.1 {
         let (second, proved) = numbers;
@@ -115,10 +115,33 @@ fn same(model: &State, lent: &State, numbers: (u32, u32)) -> Result<(), String> 
     let (numbers, places) = (record_numbers, place_numbers);
     other_word("record", &numbers(model), &numbers(lent))
         .or_else(|| other_word("directory", &places(model), &places(lent)))
+        .or_else(|| {
+            other_word(
+                "width",
+                &[width(&model.record)],
+                &[width_given(&lent.record)],
+            )
+        })
         .or_else(|| other_word("main", &model.main, &lent.main))
         .or_else(|| other_word("queue", &model.queue, &lent.queue))
         .or_else(|| other_word("annex", &model.annex, &lent.annex))
         .map_or(Ok(()), Err)
+}
+
+/// The width that the C interface gives for the record.
+fn width_given(record: &Record) -> u32 {
+    let filter = product::lend(record);
+    // The pointer is to a whole record.
+    unsafe { exports::kj_width(&raw const filter) }
+}
+
+/// The width of the model's record, 0 where it is out of range.
+fn width(record: &Record) -> u32 {
+    if record.in_range() {
+        record.width()
+    } else {
+        0
+    }
 }
 
 /// The first word that differs. Both are lent equally many.

@@ -40,7 +40,7 @@ impl Guarded {
     }
 }
 
-fn lend(record: &Record) -> Filter {
+pub fn lend(record: &Record) -> Filter {
     let r = record;
     let place = |p: &Place| [p.length, p.size_power, p.count];
     Filter {

@@ -42,5 +42,6 @@ calls! {
 }
 
 extern "C" {
+    pub fn kj_width(record: *const Filter) -> u32;
     pub fn kj_query_bytes(k: u32, w: u32, hash: u64, bytes: *const u8, count: usize) -> u32;
 }

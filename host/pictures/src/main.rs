@@ -84,11 +84,11 @@ fn train(words: &[&str]) -> Result<(), String> {
     match *words {
         ["write", root] => training::write(Path::new(root)),
         ["check", root] => training::check(Path::new(root)),
-        ["prover", root] => training::check_quotations(Path::new(root)),
+        ["prover", root, log] => training::check_quotations(Path::new(root), Path::new(log)),
         ["replays", root, folder] => replays::write_replays(Path::new(root), Path::new(folder)),
         ["edit", folder, file] => replays::edit(Path::new(folder), Path::new(file)),
         _ => Err(String::from(
-            "training write|check|prover ROOT, replays ROOT FOLDER, edit CRATE EDIT",
+            "training write|check ROOT, prover ROOT LOG, replays ROOT FOLDER, edit CRATE EDIT",
         )),
     }
 }

@@ -353,11 +353,17 @@ pub fn made(root: &Path, document: &str) -> Result<(String, Vec<File>), String> 
     Ok((text, files))
 }
 
-/// Whether a quotation is in the prover's log: its lines have to be there in this order, ` .. ` for what is left out.
-fn quoted_right(root: &Path, name: &str, quoted: &str) -> Result<(), String> {
-    let path = root.join(format!("target/must-fail/{name}/.log"));
-    let log = read(&path)?;
-    let mut rest = &log[..];
+/// What `rt must-fail` said of the refusal of one edit.
+fn refusal<'a>(log: &'a str, name: &str) -> Option<&'a str> {
+    let head = format!("rt: must-fail {name}.edit: refused, as it must be: ");
+    log.lines()
+        .find_map(|line| line.strip_prefix(head.as_str()))
+}
+
+/// Whether a quotation is what was said of that edit: its lines have to be there in this order, ` .. ` for what is left out.
+fn quoted_right(log: &str, name: &str, quoted: &str) -> Result<(), String> {
+    let mut rest =
+        refusal(log, name).ok_or_else(|| format!("{name}: not refused for its meaning"))?;
     for piece in quoted.lines().flat_map(|line| line.split(" .. ")) {
         let at = rest
             .find(piece)
@@ -367,13 +373,14 @@ fn quoted_right(root: &Path, name: &str, quoted: &str) -> Result<(), String> {
     Ok(())
 }
 
-/// Holds every quotation to the log that `rt must-fail` left.
-pub fn check_quotations(root: &Path) -> Result<(), String> {
+/// Holds every quotation to what `rt must-fail` said.
+pub fn check_quotations(root: &Path, log: &Path) -> Result<(), String> {
     let quotations = fenced(&read(&document_of(root))?, "prover");
+    let log = read(log)?;
     for (info, quoted) in &quotations {
-        quoted_right(root, &info.join(" "), quoted)?;
+        quoted_right(&log, &info.join(" "), quoted)?;
     }
-    println!("{} quotations are in the prover's logs", quotations.len());
+    println!("{} quotations are what the prover says", quotations.len());
     Ok(())
 }
 

@@ -133,6 +133,35 @@ static void keepers(keeper_settings settings, bool voids) {
   keeper_drop(&kept);
 }
 
+/* What is shown once a number of the record is out of range. */
+static void shown_without_width(const char *what, keeper *of, uint32_t *number, uint32_t bad) {
+  uint32_t good = *number;
+  front shown;
+  front_open(&shown);
+  front_show(&shown, of);
+  expect("an empty filter says no", front_says_no(&shown, 1));
+  *number = bad;
+  front_show(&shown, of);
+  expect(what, kj_width(&of->filter) == 0 && !front_believed(&shown) && !front_says_no(&shown, 1));
+  *number = good;
+  front_close(&shown);
+}
+
+/* A record out of range has no width, and no "no" of what is shown of it is believed. */
+static void without_width(void) {
+  keeper kept = {0};
+  kj_filter *filter = &kept.filter;
+  expect("start", keeper_start(&kept, (keeper_settings){10, 11, KJ_REGIME_FIXED}) == KJ_OK);
+  shown_without_width("k too small", &kept, &filter->k, 9);
+  shown_without_width("k too large", &kept, &filter->k, KJ_POWER_MOST + 1);
+  shown_without_width("k far out", &kept, &filter->k, UINT32_MAX);
+  shown_without_width("start power", &kept, &filter->start_power, 11);
+  shown_without_width("fingerprint too short", &kept, &filter->fingerprint, 2);
+  shown_without_width("fingerprint too long", &kept, &filter->fingerprint, 16);
+  shown_without_width("regime", &kept, &filter->regime, UINT32_MAX);
+  keeper_drop(&kept);
+}
+
 /* A damaged filter is found at night, or when it says no to a code in the list, and built anew. */
 static void damaged(const char *list) {
   static portal of;
@@ -196,6 +225,7 @@ int main(int count, char **words) {
   keepers((keeper_settings){3, 3, KJ_REGIME_FIXED}, true);
   keepers((keeper_settings){3, 3, KJ_REGIME_WIDENING}, true);
   keepers((keeper_settings){10, 11, KJ_REGIME_FIXED}, false);
+  without_width();
   largest();
   add_school(words[1]);
   damaged(words[1]);

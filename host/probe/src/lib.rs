@@ -1,4 +1,4 @@
-//! The proved functions of one table, as `rt staticlib probe` exports them, each wrapped once.
+//! The proved functions of one table, as crate probe exports them, each wrapped once.
 //!
 //! A slice is lent for its call alone, and the exported function is given its true length. A call
 //! out of range is a slip of the caller and panics.

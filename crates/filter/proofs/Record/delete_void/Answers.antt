@@ -1,0 +1,60 @@
+-- The last void of the run becomes a tombstone in its place, and the queue gains its word, where it has room.
+use Rattle.filter.proofs.Quicks.{bounds_of}
+use mathlib.Core.Path.{refl}
+use native.Mathlib.Omega.{arith}
+use Rattle.rules.specs.Record.{change}
+use Rattle.filter.specs.Plain.{plain}
+use Rattle.filter.proofs.Takes.{place}
+use Rattle.filter.proofs.Deletes.{void-full, void-lent, void-none, void-done, void-small}
+use Rattle.filter.proofs.Record.delete_void.Goals as goal
+
+pub returns-then-queued-eq1048576 : goal.returns-then-queued-eq1048576
+returns-then-queued-eq1048576 c =
+    let a = c.args in
+    void-full (plain a.self) a.main.now a.queue.now a.annex.now a.hash _ _ c.requires.0 c.requires.1 c.if-queued-eq1048576.true
+
+pub returns-then-q-queue : goal.returns-then-q-queue
+returns-then-q-queue c =
+    let a = c.args in
+    void-lent (plain a.self) a.main.now a.queue.now a.annex.now a.hash _ _ c.requires.0 c.requires.1 c.if-q-queue.true
+
+pub raise_last-raised-requires : goal.raise_last-raised-requires
+raise_last-raised-requires c =
+    let a = c.args in
+    let v = place (plain a.self) a.main.now a.queue.now a.annex.now a.hash _ _ c.requires.0 in (v.inside, v.most, v.more, void-small (plain a.self) a.main.now a.queue.now a.annex.now a.hash _ _ c.requires.0 c.requires.1)
+
+pub overflow_cast-queue : goal.overflow_cast-queue
+overflow_cast-queue c =
+    let a = c.args in
+    let v = place (plain a.self) a.main.now a.queue.now a.annex.now a.hash _ _ c.requires.0 in omega (arith, v.slots)
+
+pub overflow_mul-queue : goal.overflow_mul-queue
+overflow_mul-queue c =
+    let a = c.args in
+    let v = place (plain a.self) a.main.now a.queue.now a.annex.now a.hash _ _ c.requires.0 in omega (arith, v.slots)
+
+pub bounds-queue-q : goal.bounds-queue-q
+bounds-queue-q c =
+    let a = c.args in
+    let if2 = c.if-q-queue in
+    let v = place (plain a.self) a.main.now a.queue.now a.annex.now a.hash _ _ c.requires.0 in let n = if2.false in omega (arith, v.queued, n)
+
+pub overflow_add-self : goal.overflow_add-self
+overflow_add-self c =
+    let a = c.args in
+    let b = bounds_of (plain a.self) a.main.now a.queue.now a.annex.now c.requires.0.lent in omega (arith, b.queued_small)
+
+pub returns-then-raised : goal.returns-then-raised
+unfolding change
+returns-then-raised c =
+    let a = c.args in
+    let if1 = c.if-queued-eq1048576 in
+    let if2 = c.if-q-queue in
+    let raise-last = c.raise_last-raised.ensures in
+    void-done (plain a.self) a.main.now a.queue.now a.annex.now a.hash _ _ c.requires.0 c.requires.1 _ _ _ raise-last c.if-raised.true refl if1.false if2.false
+
+pub returns : goal.returns
+returns c =
+    let a = c.args in
+    let raise-last = c.raise_last-raised.ensures in
+    void-none (plain a.self) a.main.now a.queue.now a.annex.now a.hash _ _ c.requires.0 c.requires.1 _ _ raise-last c.if-raised.false

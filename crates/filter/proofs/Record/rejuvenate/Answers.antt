@@ -1,0 +1,49 @@
+-- The longest match is renewed, or there is none.
+use mathlib.Core.Path.{sym, ◌∙◌}
+use Rattle.filter.specs.Plain.{plain}
+use Rattle.filter.proofs.Outcomes.{first-right}
+use Rattle.filter.proofs.Quicks.{bounds_of, walk, found-matched}
+use Rattle.filter.proofs.Takes.{chosen}
+use Rattle.filter.proofs.Renews.{renew-refused, renew-6}
+use Rattle.filter.proofs.Record.rejuvenate.Goals as goal
+
+pub returns-then-n-ne0 : goal.returns-then-n-ne0
+returns-then-n-ne0 c =
+    let a = c.args in
+    renew-refused (plain a.self) a.main.now a.queue.now a.annex.now a.hash _ c.first_number-n.ensures c.if-n-ne0.true
+
+pub width-w-requires : goal.width-w-requires
+width-w-requires c = (first-right (plain c.args.self) _ _ _ (sym c.first_number-n.ensures ∙ c.if-n-ne0.false)).0
+
+pub canonical-c-requires : goal.canonical-c-requires
+canonical-c-requires c =
+    let a = c.args in
+    (bounds_of (plain a.self) a.main.now a.queue.now a.annex.now (sym c.if-n-ne0.false ∙ c.first_number-n.ensures)).k_20
+
+pub first_match-m-requires : goal.first_match-m-requires
+first_match-m-requires c =
+    let a = c.args in
+    let first-number = c.first_number-n.ensures in
+    let if1 = c.if-n-ne0 in
+    let v = walk (plain a.self) a.main.now a.queue.now a.annex.now (sym if1.false ∙ first-number) _ _ c.canonical-c.ensures.1 c.width-w.ensures.0 in
+    (v.inside, v.most, v.more, v.wide, v.tall)
+
+pub renew-requires : goal.renew-requires
+renew-requires c =
+    let a = c.args in
+    let first-number = c.first_number-n.ensures in
+    let if1 = c.if-n-ne0 in
+    let width = c.width-w.ensures in
+    let canonical = c.canonical-c.ensures in
+    let first-match = c.first_match-m.ensures in
+    let if2 = c.if-m in
+    chosen (plain a.self) a.main.now a.queue.now a.annex.now a.hash (sym if1.false ∙ first-number) _ _ canonical.0 width.0 _ _ first-match if2.true
+
+pub returns : goal.returns
+returns c =
+    let a = c.args in
+    let first-number = c.first_number-n.ensures in
+    let if1 = c.if-n-ne0 in
+    let width = c.width-w.ensures in
+    let canonical = c.canonical-c.ensures in
+    renew-6 (plain a.self) a.main.now a.queue.now a.annex.now a.hash (sym if1.false ∙ first-number) _ (found-matched (plain a.self) a.main.now a.queue.now a.annex.now a.hash _ _ canonical.0 width.0 _ _ c.first_match-m.ensures) c.if-m.false
