@@ -8,7 +8,6 @@ use native.Mathlib.Nat.{mod-lt}
 use lib.Pow.{pow_pos, pow_mono}
 use lib.ListN.{length, get_or}
 use Rattle.lists.specs.Runs.{count}
-use Rattle.slots.specs.Payload.{pay}
 use Rattle.layout.specs.Decode.{run_at, runs_from, decode}
 use Rattle.rules.specs.Tables.{hash_entry, matching}
 use Rattle.keeps.proofs.Mothers.{hash-fits}
@@ -16,17 +15,6 @@ use Rattle.annex.specs.Stored.{table_of}
 
 pub entry-fits : (b s c p y : ℕ) → s < b → p ≡ 2 ^ b → y ≡ 2 ^ s → c % p / y < 2 ^ (b - s)
 entry-fits b s c p y h e f = rw (e, f) (hash-fits b s (c % 2 ^ b) (omega arith) (mod-lt c (pow_pos b)))
-
-pub entry-is : (b s c p y r : ℕ) → p ≡ 2 ^ b → y ≡ 2 ^ s → r ≡ pay 18 (b - s) (c % p / y) → r ≡ hash_entry b s (c % 2 ^ b)
-entry-is b s c p y r e f g = g ∙ ap₂ (λ (m n : ℕ). pay 18 (b - s) (c % m / n)) e f
-
-pub slot_is : (s c p r : ℕ) → p ≡ 2 ^ s → r ≡ c % p → (r ≡ c % 2 ^ s) × (r < 2 ^ s)
-slot_is s c p r e f =
-    let g : r ≡ c % 2 ^ s = f ∙ ap (λ (n : ℕ). c % n) e in
-    (g, omega (arith, mod-lt c (pow_pos s)))
-
-pub cast_fits : (c p : ℕ) → 0 < p → p ≤ 67108864 → c % p < 67108864
-cast_fits c p h l = omega (arith, mod-lt c h)
 
 -- a size power from 3 to 20
 pub size-20 : (s : ℕ) → s ≤ 20 → 2 ^ s ≤ 1048576
@@ -46,7 +34,8 @@ pub decode-at : (words : List ℕ) (i : ℕ) → i < length words → get_or (de
 unfolding decode
 decode-at words i h = let e : 0 + i ≡ i = omega arith in from_at words 0 (length words) i h ∙ ap (run_at words) e
 
-pub matching-read : (words : List ℕ) (b s c slot x r : ℕ) → slot ≡ c % 2 ^ s → x ≡ hash_entry b s (c % 2 ^ b) → slot < length words → r ≡ count x (run_at words slot)
+pub matching-read : (words : List ℕ) (b s c slot x r : ℕ) → slot ≡ c % 2 ^ s → x ≡ hash_entry b s (c % 2 ^ b) → slot < length words
+    → r ≡ count x (run_at words slot)
     → r ≡ matching c (table_of b s words)
 unfolding matching
 matching-read words b s c slot x r e f h g =

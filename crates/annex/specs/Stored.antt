@@ -1,6 +1,6 @@
 -- Document 01, "What the calls do", Settle: "find the longest stored mother hash whose b bits equal the low b bits of c. If none, go on. Otherwise remove it from
 -- the annex".
-use Rattle.std.specs.Prelude.{ℕ, ◌%◌, ◌^◌, ◌≤◌, ◌<◌, ◌≡◌, List, [], ◌++◌, T, length, get_or, set, drop}
+use Rattle.std.specs.Prelude.{ℕ, ◌+◌, ◌%◌, ◌^◌, ◌≤◌, ◌<◌, ◌≡◌, Option, MatchOption, List, [], ◌++◌, T, length, get_or, set, drop}
 use Rattle.lists.specs.Runs.{erase, at}
 use Rattle.layout.specs.Decode.{decode}
 use Rattle.directory.specs.declared.Place.{Place}
@@ -24,11 +24,13 @@ pub record Placed (places : List Place) (annex : List ℕ) : Type 0 where
   pub directory : T (directory_right 20 places)
   pub long : words_taken (places_in_use places) ≤ length annex
 
--- i is the place of the longest mother hash that matches c: the last table with a match, since lengths rise; or 15 and no table has one
-pub record LongestAt (c : ℕ) (ts : List Table) (i : ℕ) : Type 0 where
-  pub inside : i < 15 → i < length ts
-  pub here : i < 15 → 0 < matching c (get_or ts i no_table)
-  pub later : (j : ℕ) → (i < 15 → i < j) → j < length ts → matching c (get_or ts j no_table) ≡ 0
+-- no table from place i on has a mother hash that matches c
+abbrev pub NoneFrom : ℕ → List Table → ℕ → Type 0
+NoneFrom c ts i = (j : ℕ) → i ≤ j → j < length ts → matching c (get_or ts j no_table) ≡ 0
+
+-- the place of the longest mother hash that matches c: the last table with a match, since lengths rise; or none, and no table has one
+abbrev pub LongestAt : ℕ → List Table → Option ℕ → Type 0
+LongestAt c ts o = MatchOption o (NoneFrom c ts 0) (λ i. (i < length ts) × (0 < matching c (get_or ts i no_table)) × NoneFrom c ts (i + 1))
 
 -- the table without one mother hash that matches c
 abbrev pub without : Table → ℕ → Table

@@ -21,8 +21,7 @@ pub fn hash_slot(s: u32, c: u32) -> usize
     requires { s ≤ 20 }
     ensures { (result ≡ c % 2 ^ s) × (result < 2 ^ s) }
 {
-    let slot = c % slots::pow2(s);
-    slot as usize
+    (c % slots::pow2(s)) as usize
 }
 
 // How many mother hashes of b bits in a table of 2^s slots match c.
@@ -35,23 +34,23 @@ fn matching(words: &[u32], b: u32, s: u32, c: u32) -> usize
     lookup::count_in_run(words, slot, entry)
 }
 
-// The place of the longest stored mother hash that matches c, or 15 if there is none: lengths rise, so the search goes from the last table down.
-pub fn longest_place(annex: &[u32], places: [Place; 15], c: u32) -> usize
+// The place of the longest stored mother hash that matches c: lengths rise, so the search goes from the last table down.
+pub fn longest_place(annex: &[u32], places: [Place; 15], c: u32) -> Option<usize>
     requires { Placed places annex.now }
     ensures { LongestAt c (stored places annex.now) result }
 {
-    let mut i = directory::places_in_use(places);
-    let mut at = directory::words_taken(places, i);
-    while 0 < i {
-        let p = places[i - 1];
-        let end = at;
-        at -= directory::table_words(p.s);
-        if 0 < matching(&annex[at..end], p.b, p.s, c) {
-            return i - 1;
+    let n = directory::places_in_use(places);
+    // The tables follow one another, so the offset goes along, from the last down.
+    let mut end = directory::words_taken(places, n);
+    for i in (0..n).rev() {
+        let place = places[i];
+        let at = end - directory::table_words(place.s);
+        if 0 < matching(&annex[at..end], place.b, place.s, c) {
+            return Some(i);
         }
-        i -= 1;
+        end = at;
     }
-    15
+    None
 }
 
 // The mother hash at place i that matches c goes.
@@ -59,11 +58,11 @@ pub fn take_hash(annex: &mut [u32], places: [Place; 15], i: usize, c: u32) -> [P
     requires { FoundAt places annex.old i c }
     ensures { TakenAt places annex.old i c annex.new result }
 {
+    let place = places[i];
     let at = directory::words_taken(places, i);
-    let p = places[i];
-    let end = at + directory::table_words(p.s);
-    let slot = hash_slot(p.s, c);
-    let entry = hash_entry(p.b, p.s, c);
+    let end = at + directory::table_words(place.s);
+    let slot = hash_slot(place.s, c);
+    let entry = hash_entry(place.b, place.s, c);
     table::remove(&mut annex[at..end], slot, entry);
-    places::with_count(places, i, p.count - 1)
+    places::with_count(places, i, place.count - 1)
 }

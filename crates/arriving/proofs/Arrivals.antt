@@ -42,7 +42,8 @@ pub arrived-none : (ws : List ℕ) → Arrived ws ws []
 unfolding Arrived arrive
 arrived-none ws rs e h = e
 
-pub arrived-one : (ws ws' : List ℕ) (c x : ℕ) → ((rs : Runs) → ws ≡ layout rs → suc (total rs) < length rs → ws' ≡ layout (at c (add x) rs)) → Arrived ws ws' (arrival c x ∷ [])
+pub arrived-one : (ws ws' : List ℕ) (c x : ℕ) → ((rs : Runs) → ws ≡ layout rs → suc (total rs) < length rs → ws' ≡ layout (at c (add x) rs))
+    → Arrived ws ws' (arrival c x ∷ [])
 unfolding Arrived arrive
 arrived-one ws ws' c x f rs e h = f rs e (omega arith)
 
@@ -60,12 +61,6 @@ module _ {A : Type 0} where
   run-append f [] m = refl
   run-append f (p ∷ l) m = ap (λ (x : List A). f p ++ x) (run-append f l m) ∙ sym (append_assoc (f p) (of_run f l) (of_run f m))
 
-  pub run_more : (f : ℕ → List A) (run : List ℕ) (t p : ℕ) → t < length run → p ≡ get_or run t 0 → of_run f (take (t + 1) run) ≡ of_run f (take t run) ++ f p
-  unfolding of_run
-  run_more f run t p h e =
-      ap (λ (i : ℕ). of_run f (take i run)) (add-one t) ∙ ap (of_run f) (take-suc run t 0 h) ∙ run-append f (take t run) (get_or run t 0 ∷ [])
-      ∙ ap (λ (x : List A). of_run f (take t run) ++ x) (append-nil (f (get_or run t 0)) ∙ ap f (sym e))
-
   pub runs_append : (f : ℕ → ℕ → List A) (c : ℕ) (l m : Runs) → of_runs f c (l ++ m) ≡ of_runs f c l ++ of_runs f (c + length l) m
   unfolding of_runs
   runs_append f c [] m = let e : c ≡ c + 0 = omega arith in ap (λ (i : ℕ). of_runs f i m) e
@@ -74,7 +69,8 @@ module _ {A : Type 0} where
       ap (λ (x : List A). of_run (f c) r ++ x) (runs_append f (suc c) l m ∙ ap (λ (i : ℕ). of_runs f (suc c) l ++ of_runs f i m) e)
       ∙ sym (append_assoc (of_run (f c) r) (of_runs f (suc c) l) (of_runs f (c + suc (length l)) m))
 
-  pub runs-more : (f : ℕ → ℕ → List A) (runs : Runs) (c : ℕ) → c < length runs → of_runs f 0 (take (c + 1) runs) ≡ of_runs f 0 (take c runs) ++ of_run (f c) (get_or runs c [])
+  pub runs-more : (f : ℕ → ℕ → List A) (runs : Runs) (c : ℕ) → c < length runs
+      → of_runs f 0 (take (c + 1) runs) ≡ of_runs f 0 (take c runs) ++ of_run (f c) (get_or runs c [])
   unfolding of_runs
   runs-more f runs c h =
       ap (λ (i : ℕ). of_runs f 0 (take i runs)) (add-one c) ∙ ap (of_runs f 0) (take-suc runs c [] h) ∙ runs_append f 0 (take c runs) (get_or runs c [] ∷ [])
@@ -82,15 +78,6 @@ module _ {A : Type 0} where
       ∙ ap (λ (x : List A). of_runs f 0 (take c runs) ++ x) (append-nil (of_run (f c) (get_or runs c [])))
 
   -- a part gives no more than the whole
-  pub run-part : (f : ℕ → List A) (run : List ℕ) (t : ℕ) → length (of_run f (take t run)) ≤ length (of_run f run)
-  run-part f run t =
-      omega (
-        arith,
-        ap (λ (l : List ℕ). length (of_run f l)) (take-append-drop t run),
-        ap length (run-append f (take t run) (drop t run)),
-        length-append (of_run f (take t run)) (of_run f (drop t run)),
-      )
-
   pub runs-part : (f : ℕ → ℕ → List A) (runs : Runs) (c : ℕ) → length (of_runs f 0 (take c runs)) ≤ length (of_runs f 0 runs)
   runs-part f runs c =
       omega (

@@ -1,55 +1,41 @@
 -- The steps of the loop over the entries of a run, and what each entry gives.
 use mathlib.Core.Path.{◌≡◌, refl, sym, ap, ap₂, ◌∙◌, subst}
 use mathlib.Core.Bool.{Bool, true, false}
-use mathlib.Core.List.{List, [], ◌∷◌, ◌++◌, map}
+use mathlib.Core.List.{List, [], ◌∷◌, ◌++◌, map, append-nil}
 use Prim.Native.Nat.{ℕ, suc, ◌+◌, ◌-◌, ◌/◌, ◌%◌, ◌^◌, ◌≤◌, ◌<◌}
 use native.Mathlib.Omega.{arith}
-use native.Mathlib.Decide.{ℕ_discrete}
 use lib.Dec.{eqb}
-use lib.ListN.{length, get_or, take, length-append}
-use lib.Seq.{take_all}
+use lib.ListN.{length, length-append}
 use borrow.Author.Tests.{eq-eqb, ne_eqb}
 use Rattle.lists.specs.Runs.{Runs, add, at, total}
 use Rattle.slots.specs.Payload.{pay, void, rest_of, length_of, fingerprint_of}
 use Rattle.layout.specs.Machine.{layout}
-use Rattle.layout.specs.Decode.{turn, run_at, reading}
-use Rattle.layout.specs.Reading.{run_from}
-use Rattle.layout.proofs.RunLaws.{run_none, run-some, run_length}
 use Rattle.rules.specs.Doubling.{half}
 use Rattle.arriving.specs.Arrivals.{Arrival, arrival, Arrived, of_run, halves, Sent}
-use Rattle.arriving.proofs.Arrivals.{arrived-none, arrived-one, arrived-both, run_more}
+use Rattle.arriving.proofs.Arrivals.{arrived-none, arrived-one, arrived-both, run-append}
 
 -- ---- the entries of a run
 
--- a run is no longer than its table
-pub run_short : (ws : List ℕ) (c b f : ℕ) → c < length ws → run_from ws b f ≡ reading (turn (suc c) ws) → length (run_at ws c) ≤ length ws
-run_short ws c b f h e = go (ℕ_discrete (get_or ws c 0 % 2) 0)
-  where
-    go : Dec (get_or ws c 0 % 2 ≡ 0) → length (run_at ws c) ≤ length ws
-    go (yes z) = omega (arith, ap length (run_none ws c h z))
-    go (no z) = omega (arith, ap length (run-some ws c h (omega arith)), ap length e, run_length ws b f)
-
-pub run-start : {A : Type 0} (f : ℕ → List A) (run : List ℕ) → 0 ≡ length (of_run f (take 0 run))
+-- one entry more
+run-again : {A : Type 0} (f : ℕ → List A) (run : List ℕ) (p : ℕ) → of_run f (run ++ p ∷ []) ≡ of_run f run ++ f p
 unfolding of_run
-run-start f run = refl
+run-again f run p = run-append f run (p ∷ []) ∙ ap (λ (x : List _). of_run f run ++ x) (append-nil (f p))
 
-pub run_end : {A : Type 0} (f : ℕ → List A) (run : List ℕ) (t : ℕ) → length run ≤ t → of_run f (take t run) ≡ of_run f run
-run_end f run t h = ap (of_run f) (take_all t run h)
-
-pub run-count : {A : Type 0} (f : ℕ → List A) (run : List ℕ) (t p m x : ℕ) → t < length run → p ≡ get_or run t 0 → m ≡ length (of_run f (take t run)) → x ≡ length (f p)
-    → m + x ≡ length (of_run f (take (t + 1) run))
-run-count f run t p m x h e em ex = omega (arith, ap length (run_more f run t p h e), length-append (of_run f (take t run)) (f p))
-
-pub arrive-start : (f : ℕ → List Arrival) (run : List ℕ) (ws : List ℕ) → Arrived ws ws (of_run f (take 0 run))
+pub run-start : {A : Type 0} (f : ℕ → List A) → 0 ≡ length (of_run f [])
 unfolding of_run
-arrive-start f run ws = arrived-none ws
+run-start f = refl
 
-pub arrive-again : (f : ℕ → List Arrival) (run : List ℕ) (t p : ℕ) (a b c : List ℕ) → t < length run → p ≡ get_or run t 0 → Arrived a b (of_run f (take t run)) → Arrived b c (f p)
-    → Arrived a c (of_run f (take (t + 1) run))
-arrive-again f run t p a b c h e x y = rw (run_more f run t p h e) (arrived-both a b c (of_run f (take t run)) (f p) x y)
+pub run-count : {A : Type 0} (f : ℕ → List A) (run : List ℕ) (p m x : ℕ) → m ≡ length (of_run f run) → x ≡ length (f p)
+    → m + x ≡ length (of_run f (run ++ p ∷ []))
+run-count f run p m x em ex = omega (arith, ap length (run-again f run p), length-append (of_run f run) (f p))
 
-pub arrive-end : (f : ℕ → List Arrival) (run : List ℕ) (t : ℕ) (a b : List ℕ) → length run ≤ t → Arrived a b (of_run f (take t run)) → Arrived a b (of_run f run)
-arrive-end f run t a b h x = subst (Arrived a b) (run_end f run t h) x
+pub arrive-start : (f : ℕ → List Arrival) (ws : List ℕ) → Arrived ws ws (of_run f [])
+unfolding of_run
+arrive-start f ws = arrived-none ws
+
+pub arrive-again : (f : ℕ → List Arrival) (run : List ℕ) (p : ℕ) (a b c : List ℕ) → Arrived a b (of_run f run) → Arrived b c (f p)
+    → Arrived a c (of_run f (run ++ p ∷ []))
+arrive-again f run p a b c x y = rw (run-again f run p) (arrived-both a b c (of_run f run) (f p) x y)
 
 -- ---- the halves of an entry
 
@@ -61,7 +47,8 @@ half-void : (w v t p : ℕ) → rest_of w p ≡ 1 → half w v t p ≡ void v �
 unfolding half
 half-void w v t p e = rw (e, half)
 
-half-some : (w v t p l : ℕ) (b : Bool) → rest_of w p ≡ suc (suc l) → eqb (fingerprint_of w p % 2) t ≡ b → half w v t p ≡ elim b [ true ↦ pay v l (fingerprint_of w p / 2) ∷ [] | false ↦ [] ]
+half-some : (w v t p l : ℕ) (b : Bool) → rest_of w p ≡ suc (suc l) → eqb (fingerprint_of w p % 2) t ≡ b
+    → half w v t p ≡ elim b [ true ↦ pay v l (fingerprint_of w p / 2) ∷ [] | false ↦ [] ]
 unfolding half
 half-some w v t p l b e f = rw (e, half, f)
 
@@ -70,8 +57,9 @@ module _ (w v n c p m : ℕ) (em : m ≡ rest_of w p) where
   unfolding halves
   both x y e f = ap₂ (λ (i j : List ℕ). map (arrival c) i ++ map (arrival (c + n)) j) e f
 
-  sent : (es : List Arrival) (ws ws' : List ℕ) (more : ℕ) → halves w v n c p ≡ es → Arrived ws ws' es → more ≡ length es → more ≤ 2 → Sent w v n c p ws ws' more
-  sent es ws ws' more e a l f = record { arrived = subst (Arrived ws ws') (sym e) a; counted = l ∙ sym (ap length e); few = f }
+  sent : (es : List Arrival) (ws ws' : List ℕ) (added : ℕ) → halves w v n c p ≡ es → Arrived ws ws' es → added ≡ length es → added ≤ 2
+      → Sent w v n c p ws ws' added
+  sent es ws ws' added e a l f = record { arrived = subst (Arrived ws ws') (sym e) a; counted = l ∙ sym (ap length e); few = f }
 
   -- what the code knows after an insertion
   abbrev Put : List ℕ → List ℕ → ℕ → ℕ → Type 0

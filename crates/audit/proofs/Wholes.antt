@@ -1,14 +1,13 @@
 -- The queue word by word, the annex table by table, and the parts put together: each test answers for what is left after those before it have passed.
-use mathlib.Core.Path.{◌≡◌, sym, ap, ap₂, ◌∙◌}
+use mathlib.Core.Path.{◌≡◌, refl, sym, ap, ap₂, ◌∙◌}
 use mathlib.Core.Bool.{Bool, true, false, ◌&&◌}
-use mathlib.Core.List.{List, []}
+use mathlib.Core.List.{List, [], ◌∷◌}
 use Prim.Native.Nat.{ℕ, ◌+◌, ◌-◌, ◌/◌, ◌^◌, ◌≤◌, ◌<◌}
 use native.Mathlib.Omega.{arith}
-use native.Mathlib.Numerals.{add-one}
 use lib.Dec.{T, ltb}
-use borrow.Author.Tests.{lt-ltb, le-ltb}
 use lib.ListN.{length, take, drop, get_or}
-use lib.Seq.{drop-cons, length-take-le}
+use lib.Seq.{length-take-le}
+use Rattle.std.specs.List.{list_all}
 use Rattle.lists.specs.Lists.{every}
 use Rattle.lists.proofs.Tests.{true-test}
 use Rattle.slots.specs.Numbers.{limit}
@@ -20,6 +19,7 @@ use Rattle.rules.specs.Record.{Filter, width}
 use Rattle.rules.specs.Sound.{table_right, main_entry, annex_entry, annex_right, main_right, queue_right, addresses_right, sound}
 use Rattle.sound.specs.declared.Spans.{Spans}
 use Rattle.sound.specs.Spans.{allowed}
+use Rattle.sound.proofs.Laps.{and-true}
 use Rattle.sound.proofs.Tables.{right-laid}
 use Rattle.sound.specs.Reading.{Laid}
 use Rattle.counts.specs.Blocks.{address_test, right_from}
@@ -28,24 +28,19 @@ use Rattle.audit.specs.Queue.{addresses_below}
 
 -- ---- the queue
 
-module _ (queue : List ℕ) (k i : ℕ) (whole : Bool) (end : ℕ) (ee : end ≡ 2 ^ k) (inv : whole ≡ addresses_below k (drop i queue)) where
-  next : i < length queue → whole ≡ (ltb (get_or queue i 0 / 2) (2 ^ k) && addresses_below k (drop (i + 1) queue))
-  unfolding addresses_below every
-  next h = rw (add-one i) (inv ∙ ap (addresses_below k) (drop-cons queue i 0 h))
+every_is : (f : ℕ → Bool) (l : List ℕ) → list_all f l ≡ every f l
+unfolding every
+every_is f [] = refl
+every_is f (x ∷ l) = ap (λ (b : Bool). f x && b) (every_is f l)
 
-  pub queue-on : i < length queue → get_or queue i 0 / 2 < end → whole ≡ addresses_below k (drop (i + 1) queue)
-  queue-on h l = next h ∙ ap (λ (b : Bool). b && addresses_below k (drop (i + 1) queue)) (lt-ltb (get_or queue i 0 / 2) (2 ^ k) (omega arith))
-
-  pub queue-off : i < length queue → end ≤ get_or queue i 0 / 2 → false ≡ whole
-  queue-off h l = sym (next h ∙ ap (λ (b : Bool). b && addresses_below k (drop (i + 1) queue)) (le-ltb (get_or queue i 0 / 2) (2 ^ k) (omega arith)))
-
-pub queue-end : (queue : List ℕ) (k i : ℕ) (whole : Bool) → whole ≡ addresses_below k (drop i queue) → length queue ≤ i → true ≡ whole
-unfolding addresses_below every
-queue-end queue k i whole inv h = sym (inv ∙ ap (addresses_below k) (lib.ListN.drop_of_length-le queue {i = i} h))
+pub queue-test : (queue : List ℕ) (k end : ℕ) (r : Bool) → end ≡ 2 ^ k → r ≡ list_all (λ w. ltb (w / 2) end) queue → r ≡ addresses_below k queue
+unfolding addresses_below
+queue-test queue k end r e h = h ∙ ap (λ (n : ℕ). list_all (λ w. ltb (w / 2) n) queue) e ∙ every_is (λ w. ltb (w / 2) (2 ^ k)) queue
 
 -- ---- the annex
 
-pub one_table : (l n : ℕ) (s : Spans) (r : Bool) (part : List ℕ) → allowed s ≡ annex_entry l → r ≡ table_right (allowed s) n part → r ≡ table_right (annex_entry l) n part
+pub one_table : (l n : ℕ) (s : Spans) (r : Bool) (part : List ℕ) → allowed s ≡ annex_entry l → r ≡ table_right (allowed s) n part
+    → r ≡ table_right (annex_entry l) n part
 one_table l n s r part e f = f ∙ ap (λ (g : ℕ → Bool). table_right g n part) e
 
 module _ (places : List Place) (annex : List ℕ) (i at : ℕ) (whole : Bool) (s : Walk places annex i at)
@@ -77,9 +72,6 @@ module _ (places : List Place) (annex : List ℕ) (i at : ℕ) (whole : Bool) (s
       pub annex-on : fine ≡ true → whole ≡ annex_right (places_in_use (drop (i + 1) places)) (drop (at + size) annex)
       annex-on g = split ∙ ap (λ (b : Bool). b && annex_right (places_in_use (drop (i + 1) places)) (drop (at + size) annex)) g
 
-pub so-stored : (places : List Place) (annex : List ℕ) (stored : Bool) → stored ≡ annex_right (places_in_use places) annex → stored ≡ true → T (annex_right (places_in_use places) annex)
-so-stored places annex stored e t = true-test (annex_right (places_in_use places) annex) (sym e ∙ t)
-
 -- ---- together
 
 -- soundness by the numbers of the record
@@ -90,6 +82,17 @@ unfoldable state_right : ℕ → ℕ → ℕ → ℕ → List Place → List ℕ
 state_right k w used queued places main queue annex =
     table_right (main_entry w k) used main
     && (annex_right (places_in_use places) annex && (addresses_below k (take queued queue) && counted w queued places main queue annex))
+
+pub chained : (a b c x y : Bool) {z : Bool} → z ≡ (y && c) → y ≡ (x && b) → x ≡ a → z ≡ ((a && b) && c)
+chained a b c x y e f g = e ∙ ap (λ (u : Bool). u && c) (f ∙ ap (λ (u : Bool). u && b) g)
+
+in_order : (a b c d : Bool) → (((a && b) && c) && d) ≡ (a && (b && (c && d)))
+in_order true b c d = go b
+  where
+    go : (x : Bool) → ((x && c) && d) ≡ (x && (c && d))
+    go true = refl
+    go false = refl
+in_order false b c d = refl
 
 pub below-limit : (k n x : ℕ) → n ≤ limit k → x ≡ 2 ^ k → n < x
 below-limit k n x h e = omega (arith, limit-lt k)
@@ -109,38 +112,34 @@ module _ (k w used queued : ℕ) (places : List Place) (main queue annex : List 
       ∙ ap (λ (x : ℕ). state_right k w used x r.dir main queue annex) eq
       ∙ ap (λ (x : List Place). state_right k w used queued x main queue annex) ed)
 
-  module _ (s : Spans) (laid : Bool) (es : allowed s ≡ main_entry w k) (el : laid ≡ table_right (allowed s) used main) where
-    table_is : laid ≡ table_right (main_entry w k) used main
-    table_is = el ∙ ap (λ (f : ℕ → Bool). table_right f used main) es
+  -- the tests before the counts, as the code takes them
+  module _ (s : Spans) (es : allowed s ≡ main_entry w k) (passed : Bool)
+      (ep : passed ≡ ((table_right (allowed s) used main && annex_right (places_in_use places) annex) && addresses_below k (take queued queue))) where
+    parts : passed ≡ true → (table_right (main_entry w k) used main ≡ true) × (annex_right (places_in_use places) annex ≡ true)
+    parts e =
+        let t = and-true (table_right (allowed s) used main && annex_right (places_in_use places) annex) (addresses_below k (take queued queue)) (sym ep ∙ e) in
+        let u = and-true (table_right (allowed s) used main) (annex_right (places_in_use places) annex) t.0 in
+        (sym (ap (λ (f : ℕ → Bool). table_right f used main) es) ∙ u.0, u.1)
 
-    pub so-laid : used ≤ limit k → length main ≡ 2 ^ k → laid ≡ true → Laid main
-    so-laid h n e = right-laid (main_entry w k) used main (below-limit k used (length main) h n) (sym table_is ∙ e)
+    pub so-laid : used ≤ limit k → length main ≡ 2 ^ k → passed ≡ true → Laid main
+    so-laid h n e = right-laid (main_entry w k) used main (below-limit k used (length main) h n) (parts e).0
 
-    module _ (r : Filter) (ek : r.k ≡ k) (ew : width r ≡ w) (eu : r.used ≡ used) (eq : r.queued ≡ queued) (ed : r.dir ≡ places) where
-      pub no_table : laid ≡ false → false ≡ sound r main queue annex
-      unfolding state_right
-      no_table e =
-          sound-is false
-          (ap (λ (b : Bool). b && (annex_right (places_in_use places) annex && (addresses_below k (take queued queue) && counted w queued places main queue annex))) (sym e ∙ table_is))
-          r ek ew eu eq ed
+    pub so-stored : passed ≡ true → T (annex_right (places_in_use places) annex)
+    so-stored e = true-test (annex_right (places_in_use places) annex) (parts e).1
 
-      module _ (et : laid ≡ true) (stored : Bool) (ea : stored ≡ annex_right (places_in_use places) annex) where
-        then : (stored && (addresses_below k (take queued queue) && counted w queued places main queue annex)) ≡ sound r main queue annex
-        unfolding state_right
-        then =
-            sound-is (stored && (addresses_below k (take queued queue) && counted w queued places main queue annex))
-            (ap₂ (λ (a b : Bool). a && (b && (addresses_below k (take queued queue) && counted w queued places main queue annex))) (sym et ∙ table_is) ea)
-            r ek ew eu eq ed
+    whole : (passed && counted w queued places main queue annex) ≡ state_right k w used queued places main queue annex
+    unfolding state_right
+    whole =
+        ap (λ (b : Bool). b && counted w queued places main queue annex) ep
+        ∙ in_order (table_right (allowed s) used main) (annex_right (places_in_use places) annex) (addresses_below k (take queued queue))
+        (counted w queued places main queue annex)
+        ∙ ap (λ (f : ℕ → Bool). table_right f used main
+        && (annex_right (places_in_use places) annex && (addresses_below k (take queued queue) && counted w queued places main queue annex))) es
 
-        pub no-annex : stored ≡ false → false ≡ sound r main queue annex
-        no-annex e = ap (λ (b : Bool). b && (addresses_below k (take queued queue) && counted w queued places main queue annex)) (sym e) ∙ then
+    pub all-counts : passed ≡ true → (a : Bool) → a ≡ right_from (address_test w places annex (take queued queue)) 0 (decode main)
+        → (r : Filter) → r.k ≡ k → width r ≡ w → r.used ≡ used → r.queued ≡ queued → r.dir ≡ places → a ≡ sound r main queue annex
+    all-counts e a ea = sound-is a (ea ∙ sym (ap (λ (b : Bool). b && counted w queued places main queue annex) e) ∙ whole)
 
-        module _ (eo : stored ≡ true) (named : Bool) (en : named ≡ addresses_below k (take queued queue)) where
-          last : (named && counted w queued places main queue annex) ≡ sound r main queue annex
-          last = ap₂ (λ (a b : Bool). a && (b && counted w queued places main queue annex)) (sym eo) en ∙ then
-
-          pub no-queue : named ≡ false → false ≡ sound r main queue annex
-          no-queue e = ap (λ (b : Bool). b && counted w queued places main queue annex) (sym e) ∙ last
-
-          pub all-counts : named ≡ true → (a : Bool) → a ≡ right_from (address_test w places annex (take queued queue)) 0 (decode main) → a ≡ sound r main queue annex
-          all-counts e a ea = ea ∙ ap (λ (b : Bool). b && counted w queued places main queue annex) (sym e) ∙ last
+    pub some_fails : passed ≡ false
+        → (r : Filter) → r.k ≡ k → width r ≡ w → r.used ≡ used → r.queued ≡ queued → r.dir ≡ places → passed ≡ sound r main queue annex
+    some_fails e = sound-is passed (e ∙ sym (ap (λ (b : Bool). b && counted w queued places main queue annex) e) ∙ whole)

@@ -14,17 +14,7 @@ fn queue_right(queue: &[u32], k: u32) -> bool
     ensures { result ≡ addresses_below k queue.now }
 {
     let end = slots::pow2(k);
-    let n = queue.len();
-    let mut i: usize = 0;
-    while i < n {
-        let a = queue[i] / 2;
-        if a < end {
-            i = i + 1;
-        } else {
-            return false;
-        }
-    }
-    true
+    queue.iter().all(|word| *word / 2 < end)
 }
 
 // Whether one annex table is the layout of `count` mother hashes of length b.
@@ -32,8 +22,7 @@ fn table_right(part: &[u32], b: u32, s: u32, count: u32) -> bool
     requires { (3 ≤ s) × (s < b) × (b ≤ 20) × (length part.now ≡ 2 ^ s) × (count < length part.now) }
     ensures { result ≡ table_right (annex_entry (b - s)) count part.now }
 {
-    let t = sound::annex_spans(b - s);
-    sound::is_table(part, count, t)
+    sound::is_table(part, count, sound::annex_spans(b - s))
 }
 
 // Whether every annex table in use is.
@@ -41,28 +30,23 @@ fn annex_right(places: [directory::Place; 15], annex: &[u32]) -> bool
     requires { T (directory_right 20 places) × (words_taken (places_in_use places) ≤ length annex.now) }
     ensures { result ≡ annex_right (places_in_use places) annex.now }
 {
+    // The tables follow one another, so the offset goes along.
     let mut at: usize = 0;
-    let mut i: usize = 0;
-    while i < 15 {
-        let p = places[i];
-        if p.b == 0 {
+    for place in places {
+        if place.b == 0 {
             return true;
         }
-        let size = directory::table_words(p.s);
-        let end = at + size;
-        let part = &annex[at..end];
-        let fine = table_right(part, p.b, p.s, p.count);
-        if fine {
-            at = end;
-            i = i + 1;
-        } else {
+        let end = at + directory::table_words(place.s);
+        if !table_right(&annex[at..end], place.b, place.s, place.count) {
             return false;
         }
+        at = end;
     }
     true
 }
 
 // Whether the state of a filter with these numbers is sound: main has 2^k slots, `used` of them used, and payloads of width w; `queued` queue words are in use.
+// The record's numbers come one by one: its type stands with its calls, in a crate above.
 pub fn state_right(
     main: &[u32],
     used: u32,
@@ -78,17 +62,9 @@ pub fn state_right(
     ensures { (r : Filter) → r.k ≡ k → width r ≡ w → r.used ≡ used → r.queued ≡ queued → r.dir ≡ places
         → result ≡ sound r main.now queue.now annex.now }
 {
-    let t = sound::main_spans(k, w);
-    let laid = sound::is_table(main, used, t);
-    if laid {
-        let stored = annex_right(places, annex);
-        if stored {
-            let words = &queue[..queued];
-            let named = queue_right(words, k);
-            if named {
-                return counts::counts_right(main, w, words, places, annex);
-            }
-        }
-    }
-    false
+    let words = &queue[..queued];
+    sound::is_table(main, used, sound::main_spans(k, w))
+        && annex_right(places, annex)
+        && queue_right(words, k)
+        && counts::counts_right(main, w, words, places, annex)
 }

@@ -1,2 +1,3 @@
 -- Laws of the counts.
 pub mod Blocks
+pub mod Pairs

@@ -1,5 +1,5 @@
 -- Document 01, "What the calls do": "each address has as many tombstones .. and its voids number ..": the addresses in blocks.
-use Rattle.std.specs.Prelude.{ℕ, ◌+◌, ◌<◌, ◌≡◌, Bool, true, ◌&&◌, List, length, drop}
+use Rattle.std.specs.Prelude.{ℕ, ◌+◌, ◌<◌, ◌≡◌, Bool, ◌&&◌, Option, is_some, IfSome, List, length, drop}
 use Rattle.lists.specs.Lists.{every, map_at}
 use Rattle.lists.specs.Runs.{Runs}
 use Rattle.layout.specs.Document.{carry}
@@ -17,7 +17,8 @@ address_test w places annex queue = address_right w (tables (places_in_use place
 unfoldable pub right_from : (ℕ → List ℕ → Bool) → ℕ → Runs → Bool
 right_from f c runs = every (λ (b : Bool). b) (map_at f c (drop c runs))
 
--- the block from base on is good: what is right of all is then right of those behind it, and k entries wait on arrival at the first of them
-pub record Block (f : ℕ → List ℕ → Bool) (runs : Runs) (base : ℕ) (good : Bool) (k : ℕ) : Type 0 where
-  pub splits : right_from f base runs ≡ (good && right_from f (base + block_size) runs)
-  pub onward : good ≡ true → base + block_size < length runs → k ≡ carry runs (base + block_size)
+-- the block from base on is good if there is a next: what is right of all is then right of those behind it, and so many entries wait on arrival at the
+-- first of them
+pub record Block (f : ℕ → List ℕ → Bool) (runs : Runs) (base : ℕ) (next : Option ℕ) : Type 0 where
+  pub splits : right_from f base runs ≡ (is_some next && right_from f (base + block_size) runs)
+  pub onward : IfSome next (λ k. base + block_size < length runs → k ≡ carry runs (base + block_size))

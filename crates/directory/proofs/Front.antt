@@ -1,12 +1,14 @@
 -- A list is its front and what is behind it: each fact by the cases of the test at the first element.
 use mathlib.Core.Path.{◌≡◌, refl, sym, ap, ◌∙◌}
-use mathlib.Core.Bool.{Bool, true, false}
+use mathlib.Core.Bool.{Bool, true, false, cond}
 use mathlib.Core.List.{List, [], ◌∷◌, ◌++◌}
 use Prim.Native.Nat.{ℕ, zero, suc, ◌≤◌, ◌<◌}
 use native.Mathlib.Omega.{arith}
 use lib.Dec.{T}
 use lib.ListN.{length, get_or, take, set, length-append, get_or-append}
 use lib.Seq.{take-append-le, set-append_left}
+use Rattle.std.specs.List.{take_while}
+use Rattle.std.proofs.lemmas.List.Sums.{take_while-cons}
 use Rattle.lists.specs.Lists.{every, front, behind}
 use Rattle.lists.proofs.Tests.{and_left, and_right, and_both, test-true, true-test}
 use Rattle.lists.proofs.Alls.{All, all_set}
@@ -27,6 +29,16 @@ module _ {A : Type 0} (f : A → Bool) where
   pub behind-no : (x : A) (xs : List A) → f x ≡ false → behind f (x ∷ xs) ≡ x ∷ xs
   unfolding behind
   behind-no x xs e = rw (e, behind)
+
+  -- the front is what std's word takes
+  pub front-while : (xs : List A) → take_while f xs ≡ front f xs
+  unfolding front
+  front-while [] = refl
+  front-while (x ∷ xs) = take_while-cons f x xs ∙ go (f x) (front-while xs)
+    where
+      go : (t : Bool) → take_while f xs ≡ front f xs → cond t (x ∷ take_while f xs) [] ≡ elim t [ true ↦ x ∷ front f xs | false ↦ [] ]
+      go true ih = ap (λ l. x ∷ l) ih
+      go false ih = refl
 
   pub front-behind : (xs : List A) → front f xs ++ behind f xs ≡ xs
   unfolding front behind
@@ -80,7 +92,8 @@ module _ {A : Type 0} (f : A → Bool) where
   behind-rest [] = refl
   behind-rest (x ∷ xs) = go (f x) refl (behind-rest xs)
     where
-      go : (t : Bool) → f x ≡ t → behind f (behind f xs) ≡ behind f xs → behind f (elim t [ true ↦ behind f xs | false ↦ x ∷ xs ]) ≡ elim t [ true ↦ behind f xs | false ↦ x ∷ xs ]
+      go : (t : Bool) → f x ≡ t → behind f (behind f xs) ≡ behind f xs
+          → behind f (elim t [ true ↦ behind f xs | false ↦ x ∷ xs ]) ≡ elim t [ true ↦ behind f xs | false ↦ x ∷ xs ]
       go true e ih = ih
       go false e ih = behind-no x xs e
 

@@ -15,7 +15,8 @@ use Rattle.lists.proofs.Alls.{All, all-get, all_map, every-all}
 use Rattle.lists.proofs.Sums.{sum-append}
 use Rattle.slots.specs.Numbers.{limit}
 use Rattle.directory.specs.declared.Place.{Place}
-use Rattle.directory.specs.Places.{no_place, taken, other, places_in_use, places_not_in_use, places_right, zero_place, directory_right, words_taken, part_in, offset_in, keep, trim, fifteen}
+use Rattle.directory.specs.Places.{no_place, taken, other, places_in_use, places_not_in_use, places_right, zero_place, directory_right, words_taken}
+use Rattle.directory.specs.Places.{part_in, offset_in, keep, trim, fifteen}
 use Rattle.directory.proofs.Front.{front-behind, front_length, front-all, front-append, behind-append, front-set, behind-set}
 
 -- ---- a right directory
@@ -76,6 +77,9 @@ right-places k ps t = places-right k 5 (places_in_use ps) (right-used k ps t)
 -- an unused place of a right directory is zero
 all-zero : (b s count : ℕ) → b ≡ 0 → s ≡ 0 → count ≡ 0 → ◌≡◌ {A = Place} (record { b = b; s = s; count = count }) no_place
 all-zero b s count e f g = cc
+
+pub default-is : (p : Place) → (p.b ≡ 0) × ((p.s ≡ 0) × (p.count ≡ 0)) → p ≡ no_place
+default-is p z = all-zero p.b p.s p.count z.0 z.1.0 z.1.1
 
 zero_is : (p : Place) → T (zero_place p) → p ≡ no_place
 zero_is p t =
@@ -194,7 +198,9 @@ right-sizes k ps h t j = go (dec_le (length ps) j)
     used = all_map (RightPlace k 5) Small (λ p r. omega (arith, r.b_high, r.s_high)) (places_in_use ps) (right-places k ps t)
 
     rest : All Small (places_not_in_use ps)
-    rest = all_map (λ p. T (zero_place p)) Small (λ p z. omega (arith, ap (λ (q : Place). q.s) (zero_is p z))) (places_not_in_use ps) (every-all zero_place (places_not_in_use ps) (right-rest k ps t))
+    rest =
+        all_map (λ p. T (zero_place p)) Small (λ p z. omega (arith, ap (λ (q : Place). q.s) (zero_is p z))) (places_not_in_use ps)
+        (every-all zero_place (places_not_in_use ps) (right-rest k ps t))
 
     small : All Small ps
     small = subst (All Small) (in-use-append ps) (all_append Small (places_in_use ps) (places_not_in_use ps) used rest)

@@ -1,22 +1,28 @@
 -- One step of each loop, and its end: what the definitions say at the code's place, by what its tests found there.
 use mathlib.Core.Path.{◌≡◌, refl, sym, ap, ◌∙◌, subst}
 use mathlib.Core.Bool.{Bool, true, false, not, ◌&&◌}
-use mathlib.Core.List.{List, [], ◌∷◌, ◌++◌}
-use Prim.Native.Nat.{ℕ, suc, ◌+◌, ◌-◌, ◌*◌, ◌≤◌, ◌<◌, ◌^◌}
+use mathlib.Core.List.{List, [], ◌∷◌}
+use Prim.Native.Nat.{ℕ, ◌+◌, ◌-◌, ◌*◌, ◌≤◌, ◌<◌, ◌^◌}
 use native.Mathlib.Numerals.{add-one}
 use native.Mathlib.Omega.{arith}
 use native.Mathlib.Decide.{dec_le, ℕ_discrete}
 use lib.Dec.{T, leb, eqb, eqb→eq}
-use lib.ListN.{length, get_or, take, drop, drop_of_length-le}
-use lib.Seq.{drop-cons, take-suc}
+use Rattle.std.specs.Bool.{IsTrue}
+use lib.ListN.{length, get_or, take, drop, drop_of_length-le, length-take}
+use lib.Pow.{pow_mono}
+use lib.Seq.{drop-cons, get_or-take}
+use Rattle.std.specs.List.{sum_by}
+use Rattle.std.proofs.lemmas.List.Sums.{sum_by-le}
+use Rattle.std.proofs.lemmas.List.Recursion.{is_sum_by}
 use borrow.Author.Tests.{eq-eqb, ne_eqb, le-leb, lt-leb}
 use Rattle.lists.specs.Lists.{within, every, front, behind}
-use Rattle.lists.proofs.Tests.{true-test, test-true, and_left}
+use Rattle.lists.proofs.Tests.{no_true, true-test, test-true, and_left}
+use Rattle.lists.proofs.Alls.{All, all-get, get-all}
 use Rattle.slots.specs.Numbers.{limit}
 use Rattle.directory.specs.declared.Place.{Place}
 use Rattle.directory.specs.Places.{no_place, taken, places_in_use, places_not_in_use, places_right, zero_place, directory_right, words_taken}
-use Rattle.directory.proofs.Front.{front-yes, front-no, behind-yes, behind-no, front_length, front-take}
-use Rattle.directory.proofs.Laws.{right-first, words_append, words-cons, words-none}
+use Rattle.directory.proofs.Front.{front-yes, front-no, behind-yes, behind-no, front-take}
+use Rattle.directory.proofs.Laws.{right-first, words-cons, words-none}
 
 step : (ps : List Place) → length ps ≡ 15 → (i : ℕ) → i < 15 → drop i ps ≡ get_or ps i no_place ∷ drop (i + 1) ps
 step ps l i h = let k : i < length ps = omega arith in rw (add-one, drop-cons ps i no_place)
@@ -29,28 +35,6 @@ is_taken p e = ap not (ne_eqb p.b 0 e)
 
 is_free : (p : Place) → p.b ≡ 0 → taken p ≡ false
 is_free p e = ap not (eq-eqb p.b 0 e)
-
--- ---- places in use
-
-module _ (ps : List Place) (l : length ps ≡ 15) (i : ℕ) (inv : length (places_in_use ps) ≡ i + length (places_in_use (drop i ps))) where
-  module _ (h : i < 15) where
-    pub in-use-found : (get_or ps i no_place).b ≡ 0 → i ≡ length (places_in_use ps)
-    in-use-found e =
-        let z : length (places_in_use (drop i ps)) ≡ 0
-        = ap (λ l. length (places_in_use l)) (step ps l i h) ∙ ap length (front-no taken (get_or ps i no_place) (drop (i + 1) ps) (is_free (get_or ps i no_place) e)) in
-        omega arith
-
-    pub in-use-again : ((get_or ps i no_place).b ≡ 0 → ⊥) → length (places_in_use ps) ≡ i + 1 + length (places_in_use (drop (i + 1) ps))
-    in-use-again e =
-        let z : length (places_in_use (drop i ps)) ≡ suc (length (places_in_use (drop (i + 1) ps)))
-        = ap (λ l. length (places_in_use l)) (step ps l i h) ∙ ap length (front-yes taken (get_or ps i no_place) (drop (i + 1) ps) (is_taken (get_or ps i no_place) e)) in
-        omega arith
-
-  pub in-use-end : 15 ≤ i → i ≡ length (places_in_use ps)
-  unfolding front
-  in-use-end h =
-      let z : length (places_in_use (drop i ps)) ≡ 0 = ap (λ l. length (places_in_use l)) (past ps l i h) in
-      omega arith
 
 -- ---- right places
 
@@ -136,7 +120,8 @@ module _ (k last : ℕ) (ps : List Place) (l : length ps ≡ 15) (i : ℕ) (answ
           inv
           ∙ ap (λ l. places_right k last l && every zero_place (places_not_in_use (drop i ps))) u
           ∙ ap (λ l. places_right k last (p ∷ places_in_use qs) && every zero_place l) n
-          ∙ regroup (within (last + 1) k p.b) (within 3 (p.b - 1) p.s) (leb p.count (limit p.s)) (places_right k p.b (places_in_use qs)) (every zero_place (places_not_in_use qs))
+          ∙ regroup (within (last + 1) k p.b) (within 3 (p.b - 1) p.s) (leb p.count (limit p.s)) (places_right k p.b (places_in_use qs))
+          (every zero_place (places_not_in_use qs))
           ∙ ap (λ t. t && right_from k p.b qs) (sym f)
 
       pub right-no : r ≡ false → false ≡ answer
@@ -151,22 +136,33 @@ module _ (k last : ℕ) (ps : List Place) (l : length ps ≡ 15) (i : ℕ) (answ
 
 -- ---- words
 
-pub words-start : (ps : List Place) → 0 ≡ words_taken (take 0 ps)
-words-start ps = sym words-none
+abbrev pub words_of : Place → ℕ
+words_of p = 2 ^ p.s
 
-module _ (ps : List Place) (n : ℕ) (k : n ≤ length (places_in_use ps)) (i words : ℕ) (inv : words ≡ words_taken (take i ps)) where
-  pub words-again : (z : ℕ) → i < n → z ≡ 2 ^ (get_or ps i no_place).s → words + z ≡ words_taken (take (i + 1) ps)
-  words-again z h f =
-      let p = get_or ps i no_place in
-      let g : i < length ps = omega (arith, front_length taken ps) in
-      let t : words_taken (take (i + 1) ps) ≡ words_taken (take i ps ++ p ∷ []) = rw (add-one, take-suc ps i no_place) in
-      let w : words_taken (take (i + 1) ps) ≡ words + (z + 0) = t ∙ words_append (take i ps) (p ∷ []) ∙ cc (words-cons p [], words-none) in
-      omega arith
+-- the first n places, none of which is larger than 2^20 words
+module _ (ps : List Place) (all : (j : ℕ) → (get_or ps j no_place).s ≤ 20) (n : ℕ) where
+  abbrev Small : Place → Type 0
+  Small p = p.s ≤ 20
 
-  pub words-end : i ≤ n → n ≤ i → words ≡ words_taken (take n (places_in_use ps))
-  words-end h g =
-      let f : i ≡ n = omega arith in
-      inv ∙ ap (λ (j : ℕ). words_taken (take j ps)) f ∙ sym (ap words_taken (front-take taken ps n k))
+  all-small : All Small (take n ps)
+  all-small =
+      get-all Small (take n ps) no_place
+      (λ k h. let m : k < n = omega (arith, length-take n ps) in subst Small (sym (get_or-take n ps k no_place m)) (all k))
+
+  small : (k : ℕ) (d : Place) → k < length (take n ps) → (get_or (take n ps) k d).s ≤ 20
+  small k d h = all-get Small (take n ps) d all-small k h
+
+  pub small-at : (p : Place) (k : ℕ) → k < length (take n ps) → p ≡ get_or (take n ps) k p → p.s ≤ 20
+  small-at p k h e = subst Small (sym e) (small k p h)
+
+  pub words-bounded : n ≤ 15 → sum_by words_of (take n ps) ≤ 15 * 1048576
+  words-bounded h =
+      let most = sum_by-le words_of 1048576 (take n ps) (λ k d l. pow_mono {i = (get_or (take n ps) k d).s} {j = 20} (small k d l)) in
+      omega (arith, most, length-take n ps)
+
+pub words-summed : (ps : List Place) (n r : ℕ) → n ≤ length (places_in_use ps) → r ≡ sum_by words_of (take n ps) → r ≡ words_taken (take n (places_in_use ps))
+words-summed ps n r h e =
+    e ∙ sym (is_sum_by words_taken words_of words-none words-cons (take n ps)) ∙ sym (ap words_taken (front-take taken ps n h))
 
 -- ---- right, and the words, in one walk
 
@@ -217,7 +213,8 @@ module _ (k last : ℕ) (ps : List Place) (l : length ps ≡ 15) (i words : ℕ)
       pub free_step : r ≡ true → (last' words' : ℕ) → last' ≡ k → words' ≡ words → Walked k ps last' words' (i + 1)
       free_step g last' words' el ew =
           let z : directory_right k ps ≡ every zero_place (drop (i + 1) ps) = zero-yes ps l i (directory_right k ps) rest-zero h r f g in
-          let u : places_in_use (drop i ps) ≡ [] = ap places_in_use (step ps l i h) ∙ front-no taken (get_or ps i no_place) (drop (i + 1) ps) (is_free (get_or ps i no_place) e) in (
+          let u : places_in_use (drop i ps) ≡ [] =
+          ap places_in_use (step ps l i h) ∙ front-no taken (get_or ps i no_place) (drop (i + 1) ps) (is_free (get_or ps i no_place) e) in (
             omega arith,
             (
               omega (arith, w.1.0),
@@ -239,7 +236,8 @@ module _ (k last : ℕ) (ps : List Place) (l : length ps ≡ 15) (i words : ℕ)
           let q = right-first k last (get_or ps i no_place) [] (true-test _ (sym f ∙ g)) in
           omega (arith, q.b_high, q.s_high)
 
-      pub used_step : r ≡ true → (z : ℕ) → (z ≡ 2 ^ (get_or ps i no_place).s) × (z ≤ 1048576) → (last' words' : ℕ) → last' ≡ (get_or ps i no_place).b → words' ≡ words + z
+      pub used_step : r ≡ true → (z : ℕ) → (z ≡ 2 ^ (get_or ps i no_place).s) × (z ≤ 1048576) → (last' words' : ℕ) → last' ≡ (get_or ps i no_place).b
+          → words' ≡ words + z
           → Walked k ps last' words' (i + 1)
       used_step g z ez last' words' el ew =
           let p = get_or ps i no_place in
@@ -256,11 +254,21 @@ module _ (k last : ℕ) (ps : List Place) (l : length ps ≡ 15) (i words : ℕ)
             ),
           )
 
-  pub walk_end : 15 ≤ i → (true ≡ directory_right k ps) × (T (directory_right k ps) → words ≡ words_taken (places_in_use ps))
+  pub walk_end : 15 ≤ i → IsTrue (directory_right k ps) × (words ≡ words_taken (places_in_use ps))
   unfolding front
   walk_end h =
       let n : words_taken (places_in_use (drop i ps)) ≡ 0 = ap (λ (q : List Place). words_taken (places_in_use q)) (past ps l i h) ∙ words-none in
-      (right_end k last ps l i (directory_right k ps) w.1.1.rest h, λ t. omega (arith, w.1.1.all t, n))
+      let t : IsTrue (directory_right k ps) = sym (right_end k last ps l i (directory_right k ps) w.1.1.rest h) in
+      (t, omega (arith, w.1.1.all (true-test _ t), n))
 
-pub walk-wrong : (k : ℕ) (ps : List Place) → false ≡ directory_right k ps → (false ≡ directory_right k ps) × (T (directory_right k ps) → 0 ≡ words_taken (places_in_use ps))
-walk-wrong k ps e = (e, λ t. absurd (subst T (sym e) t))
+pub walk-wrong : (k : ℕ) (ps : List Place) → false ≡ directory_right k ps → IsTrue (directory_right k ps) → ⊥
+walk-wrong k ps e t = no_true (e ∙ t)
+
+-- whether a place is not the default is whether it is not zero
+pub zero-test : (p d : Place) (r : Bool) → (d.b ≡ 0) × ((d.s ≡ 0) × (d.count ≡ 0)) → r ≡ not (eqb p.b d.b && (eqb p.s d.s && eqb p.count d.count))
+    → not r ≡ zero_place p
+zero-test p d r z e = rw (e, z.0, z.1.0, z.1.1) (twice (eqb p.b 0 && (eqb p.s 0 && eqb p.count 0)))
+  where
+    twice : (t : Bool) → not (not t) ≡ t
+    twice true = refl
+    twice false = refl

@@ -1,6 +1,5 @@
 -- Laws of what Double writes.
 pub mod Stored
-pub mod Leaves
 pub mod Loops
 pub mod Tabled
 pub mod Given

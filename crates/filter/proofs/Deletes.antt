@@ -15,15 +15,16 @@ use Rattle.layout.specs.Decode.{decode}
 use Rattle.rules.specs.Record.{Filter, change, width}
 use Rattle.rules.specs.Sound.{sound}
 use Rattle.rules.specs.Calls.{give}
-use Rattle.rules.specs.Quick.{home, matched, best, query_number, take_number, deleted, delete}
+use Rattle.rules.specs.Quick.{home, matched, best, queue_full, query_number, take_number, deleted, delete}
 use Rattle.filter.specs.Promises.{first_number, Leaves, Quick, Chosen}
 use Rattle.filter.proofs.Outcomes.{given, refusal-quick, unsound-quick, done-quick}
 use Rattle.filter.proofs.Quicks.{first-query, bounds_of}
-use Rattle.filter.proofs.Takes.{Sure, sure, take-first, take-6, take-bits, take-void, take-full, take-lent}
+use Rattle.filter.proofs.Takes.{Sure, sure, take-first, take-6, take-bits, take-void, take-full}
 
 module _ (r : Filter) (main queue annex : List ℕ) (h : ℕ) where
   abbrev pub DeleteQuick : ℕ → Filter → List ℕ → List ℕ → Type 0
-  DeleteQuick n rec main' queue' = Quick (delete r main queue annex h) (query_number r main queue annex) (sound r main queue annex) r main queue annex n rec main' queue' annex
+  DeleteQuick n rec main' queue' =
+      Quick (delete r main queue annex h) (query_number r main queue annex) (sound r main queue annex) r main queue annex n rec main' queue' annex
 
   refuse : (n : ℕ) → take_number r main queue annex h ≡ suc n → DeleteQuick (suc n) r main queue
   unfolding delete
@@ -33,8 +34,8 @@ module _ (r : Filter) (main queue annex : List ℕ) (h : ℕ) where
   delete-refused zero e ne = absurd (ne refl)
   delete-refused (suc n) e ne = refuse n (take-first r main queue annex h n e)
 
-  pub delete-6 : 0 ≡ first_number r (length main) (length queue) (length annex) → (b : Bool) → b ≡ matched r main h → b ≡ false → DeleteQuick 6 r main queue
-  delete-6 z b e f = refuse 5 (take-6 r main queue annex h z (sym e ∙ f))
+  pub delete-6 : 0 ≡ first_number r (length main) (length queue) (length annex) → matched r main h ≡ false → DeleteQuick 6 r main queue
+  delete-6 z e = refuse 5 (take-6 r main queue annex h z e)
 
   module _ (c p : ℕ) (ch : Chosen r main queue annex h c p) where
     zero-first : query_number r main queue annex ≡ 0
@@ -43,7 +44,8 @@ module _ (r : Filter) (main queue annex : List ℕ) (h : ℕ) where
     unsound : (n : ℕ) → (Sure r main c p → ⊥) → DeleteQuick n r main queue
     unsound n f = unsound-quick r main queue annex _ _ _ n zero-first (λ s. f (sure r main queue annex h c p ch s))
 
-    done : (u n : ℕ) (main' queue' : List ℕ) → take_number r main queue annex h ≡ 0 → (Sure r main c p → Leaves (deleted r main queue annex h) 0 (change r r.k u n r.dir) main' queue' annex)
+    done : (u n : ℕ) (main' queue' : List ℕ) → take_number r main queue annex h ≡ 0
+        → (Sure r main c p → Leaves (deleted r main queue annex h) 0 (change r r.k u n r.dir) main' queue' annex)
         → DeleteQuick 0 (change r r.k u n r.dir) main' queue'
     unfolding delete give
     done u n main' queue' z l =
@@ -58,7 +60,8 @@ module _ (r : Filter) (main queue annex : List ℕ) (h : ℕ) where
 
       abbrev Removes : Bool → List ℕ → Type 0
       Removes b main' = (b ≡ false → main' ≡ main)
-          × ((runs : Runs) → main ≡ layout runs → total runs < length runs → T (rising (get_or runs c [])) → (b ≡ has p (get_or runs c [])) × (main' ≡ layout (set runs c (erase p (get_or runs c [])))))
+          × ((runs : Runs) → main ≡ layout runs → total runs < length runs → T (rising (get_or runs c []))
+          → (b ≡ has p (get_or runs c [])) × (main' ≡ layout (set runs c (erase p (get_or runs c [])))))
 
       pub bits-gone : (b : Bool) (main' : List ℕ) → Removes b main' → b ≡ false → DeleteQuick 6 r main' queue
       bits-gone b main' t e =
@@ -86,11 +89,8 @@ module _ (r : Filter) (main queue annex : List ℕ) (h : ℕ) where
     -- ---- a void
 
     module _ (vo : p ≡ void (width r)) where
-      pub void-full : r.queued ≡ 1048576 → DeleteQuick 7 r main queue
+      pub void-full : queue_full r queue ≡ true → DeleteQuick 7 r main queue
       void-full e = refuse 6 (take-full r main queue annex h c p ch vo e)
-
-      pub void-lent : r.queued ≡ length queue → DeleteQuick 7 r main queue
-      void-lent e = refuse 6 (take-lent r main queue annex h c p ch vo e)
 
       pub void-small : p < 536870911
       unfolding void pay
@@ -100,7 +100,8 @@ module _ (r : Filter) (main queue annex : List ℕ) (h : ℕ) where
 
       abbrev Raises : Bool → List ℕ → Type 0
       Raises b main' = (b ≡ false → main' ≡ main)
-          × ((runs : Runs) → main ≡ layout runs → total runs < length runs → T (rising (get_or runs c [])) → (b ≡ has p (get_or runs c [])) × (b ≡ true → main' ≡ layout (set runs c (add (suc p) (erase p (get_or runs c []))))))
+          × ((runs : Runs) → main ≡ layout runs → total runs < length runs → T (rising (get_or runs c []))
+          → (b ≡ has p (get_or runs c [])) × (b ≡ true → main' ≡ layout (set runs c (add (suc p) (erase p (get_or runs c []))))))
 
       pub void-none : (b : Bool) (main' : List ℕ) → Raises b main' → b ≡ false → DeleteQuick 6 r main' queue
       void-none b main' t e =
@@ -119,7 +120,8 @@ module _ (r : Filter) (main queue annex : List ℕ) (h : ℕ) where
           e ∙ ap₂ (λ (a b : ℕ). layout (set (decode main) c (add a (erase b (get_or (decode main) c []))))) next vo
           ∙ ap (λ (a : ℕ). layout (set (decode main) a (add (tombstone (width r)) (erase (void (width r)) (get_or (decode main) a []))))) ch.slot
 
-      left-void : (main' : List ℕ) (w : ℕ) → w ≡ c * 2 → main' ≡ layout (set (decode main) (home r h) (add (tombstone (width r)) (erase (void (width r)) (get_or (decode main) (home r h) []))))
+      left-void : (main' : List ℕ) (w : ℕ) → w ≡ c * 2
+          → main' ≡ layout (set (decode main) (home r h) (add (tombstone (width r)) (erase (void (width r)) (get_or (decode main) (home r h) []))))
           → Leaves (deleted r main queue annex h) 0 (change r r.k r.used (r.queued + 1) r.dir) main' (set queue r.queued w) annex
       unfolding deleted
       left-void main' w ew e =
@@ -132,8 +134,8 @@ module _ (r : Filter) (main queue annex : List ℕ) (h : ℕ) where
             annex_is = refl;
           })
 
-      pub void-done : (b : Bool) (main' : List ℕ) (w : ℕ) → Raises b main' → b ≡ true → w ≡ c * 2 → (r.queued ≡ 1048576 → ⊥) → (r.queued ≡ length queue → ⊥)
+      pub void-done : (b : Bool) (main' : List ℕ) (w : ℕ) → Raises b main' → b ≡ true → w ≡ c * 2 → queue_full r queue ≡ false
           → DeleteQuick 0 (change r r.k r.used (r.queued + 1) r.dir) main' (set queue r.queued w)
-      void-done b main' w t e ew n1 n2 =
-          done r.used (r.queued + 1) main' (set queue r.queued w) (take-void r main queue annex h c p ch n1 n2)
+      void-done b main' w t e ew n =
+          done r.used (r.queued + 1) main' (set queue r.queued w) (take-void r main queue annex h c p ch n)
           (λ v. left-void main' w ew (raised main' ((t.1 (decode main) v.laid v.room v.rises).1 e)))

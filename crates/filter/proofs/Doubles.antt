@@ -52,7 +52,14 @@ module _ (r : Filter) (main queue annex : List ℕ) (second : ℕ) where
       pub number-3 : (n : ℕ) → n ≡ 2 ^ (r.k + 1) → (second ≡ n → ⊥) → 3 ≡ double_number r main queue annex second
       unfolding double_number refusal
       number-3 n en ne =
-          rw (re, ne_eqb r.k 20 nk, ne_eqb second (2 ^ (r.k + 1)) (λ e. ne (e ∙ sym en)), and-false (slices_right r (length main) (length queue) (length annex)), refusal)
+          rw (
+            re,
+            ne_eqb r.k 20 nk,
+            ne_eqb second (2 ^ (r.k + 1)) (λ e. ne (e ∙ sym en)),
+            and-false
+                (slices_right r (length main) (length queue) (length annex)),
+            refusal,
+          )
 
       module _ (n : ℕ) (en : n ≡ 2 ^ (r.k + 1)) (es : second ≡ n) where
         -- 3 and 4, as Audit gives them
@@ -68,7 +75,12 @@ module _ (r : Filter) (main queue annex : List ℕ) (second : ℕ) where
         unfolding double_number audit asked refusal
         number-audit a e ne =
             rw (re, ne_eqb r.k 20 nk, eq-eqb second (2 ^ (r.k + 1)) (es ∙ en), refusal)
-            (by-audit (slices_right r (length main) (length queue) (length annex)) (sound r main queue annex) a ne (e ∙ ap (λ (b : Bool). refusal (record { right = b; number = 2 } ∷ record { right = slices_right r (length main) (length queue) (length annex); number = 3 } ∷ record { right = sound r main queue annex; number = 4 } ∷ [])) re) (record { right = eqb r.queued 0; number = 8 } ∷ record { right = room_for r main queue annex (hashes r main queue annex); number = 10 } ∷ []))
+            (by-audit (slices_right r (length main) (length queue) (length annex)) (sound r main queue annex) a ne
+            (e ∙ ap (λ (b : Bool). refusal
+            (record { right = b; number = 2 } ∷ record { right = slices_right r (length main) (length queue) (length annex); number = 3 }
+            ∷ record { right = sound r main queue annex; number = 4 } ∷ [])) re)
+            (record { right = eqb r.queued 0; number = 8 }
+            ∷ record { right = room_for r main queue annex (hashes r main queue annex); number = 10 } ∷ []))
 
         module _ (z : 0 ≡ audit r main queue annex) where
           slices : slices_right r (length main) (length queue) (length annex) ≡ true
@@ -81,11 +93,13 @@ module _ (r : Filter) (main queue annex : List ℕ) (second : ℕ) where
           unfolding double_number refusal
           number-8 q = rw (re, ne_eqb r.k 20 nk, eq-eqb second (2 ^ (r.k + 1)) (es ∙ en), slices, is_sound, ne_eqb r.queued 0 q, refusal)
 
-          pub number-10 : r.queued ≡ 0 → (b : Bool) → b ≡ room_for r main queue annex (hashes r main queue annex) → b ≡ false → 10 ≡ double_number r main queue annex second
+          pub number-10 : r.queued ≡ 0 → (b : Bool) → b ≡ room_for r main queue annex (hashes r main queue annex) → b ≡ false
+              → 10 ≡ double_number r main queue annex second
           unfolding double_number refusal
           number-10 q b eb f = rw (re, ne_eqb r.k 20 nk, eq-eqb second (2 ^ (r.k + 1)) (es ∙ en), slices, is_sound, eq-eqb r.queued 0 q, sym eb ∙ f, refusal)
 
-          pub number-0 : r.queued ≡ 0 → (b : Bool) → b ≡ room_for r main queue annex (hashes r main queue annex) → b ≡ true → 0 ≡ double_number r main queue annex second
+          pub number-0 : r.queued ≡ 0 → (b : Bool) → b ≡ room_for r main queue annex (hashes r main queue annex) → b ≡ true
+              → 0 ≡ double_number r main queue annex second
           unfolding double_number refusal
           number-0 q b eb f = rw (re, ne_eqb r.k 20 nk, eq-eqb second (2 ^ (r.k + 1)) (es ∙ en), slices, is_sound, eq-eqb r.queued 0 q, sym eb ∙ f, refusal)
 
@@ -95,12 +109,14 @@ module _ (r : Filter) (main queue annex : List ℕ) (second : ℕ) where
   before-refused n ne e =
       record { refused = λ _. e; right = λ z. absurd (ne z); low = λ z. absurd (ne z); accepted = λ z. absurd (ne z); room = λ z. absurd (ne z) }
 
-  picked : (b : Bool) → (b ≡ false → 10 ≡ double_number r main queue annex second) → (b ≡ true → 0 ≡ double_number r main queue annex second) → double_number r main queue annex second ≡ cond b 0 10
+  picked : (b : Bool) → (b ≡ false → 10 ≡ double_number r main queue annex second) → (b ≡ true → 0 ≡ double_number r main queue annex second)
+      → double_number r main queue annex second ≡ cond b 0 10
   picked true f g = sym (g refl)
   picked false f g = sym (f refl)
 
   -- none of them is given
-  pub before-none : record_right r ≡ true → (r.k ≡ 20 → ⊥) → (n : ℕ) → n ≡ 2 ^ (r.k + 1) → second ≡ n → 0 ≡ audit r main queue annex → r.queued ≡ 0 → BeforeRoom r main queue annex second 0
+  pub before-none : record_right r ≡ true → (r.k ≡ 20 → ⊥) → (n : ℕ) → n ≡ 2 ^ (r.k + 1) → second ≡ n → 0 ≡ audit r main queue annex → r.queued ≡ 0
+      → BeforeRoom r main queue annex second 0
   before-none re nk n en es z q =
       let t = true-test _ re in
       record {
@@ -108,16 +124,19 @@ module _ (r : Filter) (main queue annex : List ℕ) (second : ℕ) where
         right = λ _. t;
         low = λ _. less r.k 20 (bounds r t).k_20 nk;
         accepted = λ _. sym z;
-        room = λ _ b eb. picked b (λ f. number-10 r main queue annex second re nk n en es z q b eb f) (λ f. number-0 r main queue annex second re nk n en es z q b eb f);
+        room = λ _ b eb. picked b (λ f. number-10 r main queue annex second re nk n en es z q b eb f)
+            (λ f. number-0 r main queue annex second re nk n en es z q b eb f);
       }
 
 module _ (r : Filter) (main queue annex second : List ℕ) where
-  pub double-refused : (n : ℕ) → n ≡ double_number r main queue annex (length second) → (n ≡ 0 → ⊥) → Doubles r main queue annex second n r main queue annex second
+  pub double-refused : (n : ℕ) → n ≡ double_number r main queue annex (length second) → (n ≡ 0 → ⊥)
+      → Doubles r main queue annex second n r main queue annex second
   unfolding double second_main refused
   double-refused zero e ne = absurd (ne refl)
   double-refused (suc n) e ne =
       record {
-        left = rw (given r main queue annex (double_number r main queue annex (length second)) n (doubled_outcome r main queue annex) (sym e)) (leaves (refused r main queue annex (suc n)));
+        left = rw (given r main queue annex (double_number r main queue annex (length second)) n (doubled_outcome r main queue annex) (sym e))
+            (leaves (refused r main queue annex (suc n)));
         second_is = rw (sym e, second_main);
       }
 
@@ -153,5 +172,6 @@ module _ (r : Filter) (main queue annex second : List ℕ) where
         }
 
   -- where 10 is left, it is given where there is no room
-  pub number-room : (n : ℕ) → n ≡ 0 → BeforeRoom r main queue annex (length second) n → (b : Bool) → b ≡ room_for r main queue annex (hashes r main queue annex) → cond b 0 10 ≡ double_number r main queue annex (length second)
+  pub number-room : (n : ℕ) → n ≡ 0 → BeforeRoom r main queue annex (length second) n → (b : Bool)
+      → b ≡ room_for r main queue annex (hashes r main queue annex) → cond b 0 10 ≡ double_number r main queue annex (length second)
   number-room n z v b e = sym (v.room z b e)

@@ -2,6 +2,7 @@
 pub mod Firsts
 pub mod Records
 pub mod Outcomes
+pub mod Refused
 pub mod Quicks
 pub mod Takes
 pub mod Deletes
@@ -11,4 +12,3 @@ pub mod Parts
 pub mod Audits
 pub mod Settles
 pub mod Doubles
-pub mod Restarts

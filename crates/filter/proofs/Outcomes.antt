@@ -31,7 +31,8 @@ first-right r m q a e =
     (x.0, (refusal-zero (slices_right r m q a) 2 [] x.1).0)
 
 module _ (r : Filter) (main queue annex : List ℕ) where
-  pub first-asked : (n : ℕ) (ts : List Test) → first_number r (length main) (length queue) (length annex) ≡ suc n → refusal (asked r main queue annex ts) ≡ suc n
+  pub first-asked : (n : ℕ) (ts : List Test) → first_number r (length main) (length queue) (length annex) ≡ suc n
+      → refusal (asked r main queue annex ts) ≡ suc n
   unfolding first_number asked
   first-asked n ts e = first-refused (record_right r) (slices_right r (length main) (length queue) (length annex)) n ts e
 

@@ -1,11 +1,11 @@
 -- The record's tests, put together as the code makes them: each test that holds leaves the rest, and one that fails decides.
-use mathlib.Core.Path.{◌≡◌, refl, sym, ap, ap₂, ◌∙◌, subst}
+use mathlib.Core.Path.{◌≡◌, refl, ap}
 use mathlib.Core.Bool.{Bool, true, false, ◌&&◌}
-use Prim.Native.Nat.{ℕ, ◌+◌, ◌-◌, ◌≤◌, ◌^◌}
-use native.Mathlib.Omega.{arith}
-use lib.Dec.{T, leb}
+use Prim.Native.Nat.{ℕ, ◌+◌, ◌-◌, ◌≤◌, ◌<◌, ◌^◌}
+use lib.Dec.{T, leb, leb→le}
+use borrow.Author.Tests.{eq-eqb, ne_eqb, le-leb, lt-leb}
 use Rattle.lists.specs.Lists.{within}
-use Rattle.lists.proofs.Tests.{and_left, and_right, true-test}
+use Rattle.lists.proofs.Tests.{and_left, and_right, test-true, true-test}
 use Rattle.slots.specs.Numbers.{limit, extra}
 use Rattle.directory.specs.Places.{directory_right}
 use Rattle.rules.specs.Record.{Filter, fresh_at, width_at, fresh, width, annex_used}
@@ -13,51 +13,70 @@ use Rattle.rules.specs.Refusals.{refusal, settings_right, record_right, slices_r
 use Rattle.filter.specs.Promises.{first_number}
 use Rattle.filter.specs.Widths.{width_asked}
 
+-- the settings, test by test
+module _ (power f regime : ℕ) where
+  pub settings-rest : 3 ≤ power → power ≤ 10 → 3 ≤ f → f ≤ 15 → settings_right power f regime ≡ leb regime 1
+  unfolding settings_right
+  settings-rest a b c d = rw (le-leb _ _ a, le-leb _ _ b, le-leb _ _ c, le-leb _ _ d)
+
+  pub settings-few : power < 3 → settings_right power f regime ≡ false
+  unfolding settings_right
+  settings-few a = rw (lt-leb _ _ a)
+
+  pub settings-many : 10 < power → settings_right power f regime ≡ false
+  unfolding settings_right
+  settings-many a = rw (lt-leb _ _ a, none (leb 3 power))
+    where
+      none : (x : Bool) → x && false ≡ false
+      none true = refl
+      none false = refl
+
+  pub settings-short : f < 3 → settings_right power f regime ≡ false
+  unfolding settings_right
+  settings-short a = rw (lt-leb _ _ a, none (leb 3 power && leb power 10))
+    where
+      none : (x : Bool) → x && false ≡ false
+      none true = refl
+      none false = refl
+
+  pub settings-long : 15 < f → settings_right power f regime ≡ false
+  unfolding settings_right
+  settings-long a = rw (lt-leb _ _ a, none (leb 3 power && leb power 10) (leb 3 f))
+    where
+      none : (x y : Bool) → x && (y && false && leb regime 1) ≡ false
+      none true true = refl
+      none true false = refl
+      none false y = refl
+
 module _ (r : Filter) where
-  -- number 2 is not given where all of these hold
-  pub record-all : settings_right r.start r.f r.regime ≡ true → within r.start 20 r.k ≡ true → (most : ℕ) → most ≡ limit r.k
-      → leb r.used most && leb r.queued 1048576 ≡ true → (d : Bool) → d ≡ directory_right r.k r.dir → d ≡ record_right r
+  -- a record whose settings and counts are in range is in range where its directory is right
+  pub record-rest : settings_right r.start r.f r.regime ≡ true → r.start ≤ r.k → r.k ≤ 20 → r.used ≤ limit r.k → r.queued ≤ 1048576
+      → directory_right r.k r.dir ≡ record_right r
   unfolding record_right
-  record-all a b most e c d f = f ∙ sym (ap₂ ◌&&◌ a (ap₂ ◌&&◌ b (both (leb r.used (limit r.k)) (leb r.queued 1048576) (ap (λ (m : ℕ). leb r.used m && leb r.queued 1048576) (sym e) ∙ c))))
-    where
-      both : (x y : Bool) → x && y ≡ true → x && (y && directory_right r.k r.dir) ≡ directory_right r.k r.dir
-      both true true p = refl
-      both true false p = absurd (Rattle.lists.proofs.Tests.no_true p)
-      both false y p = absurd (Rattle.lists.proofs.Tests.no_true p)
+  record-rest a b c d e = rw (a, le-leb _ _ b, le-leb _ _ c, le-leb _ _ d, le-leb r.queued 1048576 e)
 
-  pub record-counts : settings_right r.start r.f r.regime ≡ true → within r.start 20 r.k ≡ true → (most : ℕ) → most ≡ limit r.k
-      → leb r.used most && leb r.queued 1048576 ≡ false → false ≡ record_right r
+  pub record-settings : T (record_right r) → settings_right r.start r.f r.regime ≡ true
   unfolding record_right
-  record-counts a b most e c = sym (ap₂ ◌&&◌ a (ap₂ ◌&&◌ b (none (leb r.used (limit r.k)) (leb r.queued 1048576) (ap (λ (m : ℕ). leb r.used m && leb r.queued 1048576) (sym e) ∙ c))))
-    where
-      none : (x y : Bool) → x && y ≡ false → x && (y && directory_right r.k r.dir) ≡ false
-      none true true p = absurd (Rattle.lists.proofs.Tests.no_true (sym p))
-      none true false p = refl
-      none false y p = refl
-
-  pub record-k : settings_right r.start r.f r.regime ≡ true → within r.start 20 r.k ≡ false → false ≡ record_right r
-  unfolding record_right
-  record-k a b = sym (ap₂ ◌&&◌ a (ap (λ (x : Bool). x && (leb r.used (limit r.k) && (leb r.queued (2 ^ 20) && directory_right r.k r.dir))) b))
-
-  pub record-settings : settings_right r.start r.f r.regime ≡ false → false ≡ record_right r
-  unfolding record_right
-  record-settings a = sym (ap (λ (x : Bool). x && (within r.start 20 r.k && (leb r.used (limit r.k) && (leb r.queued (2 ^ 20) && directory_right r.k r.dir)))) a)
-
-  -- where it is given, nothing is said of the words
-  pub record-wrong : false ≡ record_right r → (false ≡ record_right r) × (T (record_right r) → 0 ≡ annex_used r)
-  record-wrong e = (e, λ t. absurd (subst T (sym e) t))
+  record-settings t = test-true _ (and_left (settings_right r.start r.f r.regime) _ t)
 
   -- the settings leave 3 at least for k
-  pub low_k : settings_right r.start r.f r.regime ≡ true → within r.start 20 r.k ≡ true → (3 ≤ r.k) × (r.k ≤ 20)
+  pub start-low : settings_right r.start r.f r.regime ≡ true → 3 ≤ r.start
   unfolding settings_right
-  low_k a b =
-      let s = true-test _ a in
-      let t = true-test _ b in
-      let u = and_left (within 3 10 r.start) (within 3 15 r.f && leb r.regime 1) s in
-      let lo : 3 ≤ r.start = lib.Dec.leb→le _ _ (and_left (leb 3 r.start) (leb r.start 10) u) in
-      let le : r.start ≤ r.k = lib.Dec.leb→le _ _ (and_left (leb r.start r.k) (leb r.k 20) t) in
-      let hi : r.k ≤ 20 = lib.Dec.leb→le _ _ (and_right (leb r.start r.k) (leb r.k 20) t) in
-      (omega arith, omega arith)
+  start-low a = leb→le _ _ (and_left (leb 3 r.start) (leb r.start 10) (and_left (within 3 10 r.start) _ (true-test _ a)))
+
+  -- the three lengths
+  module _ (main queue annex : ℕ) where
+    pub lent-annex : (taken : ℕ) → main ≡ 2 ^ r.k → leb r.queued queue ≡ true → taken ≡ annex_used r → leb taken annex ≡ slices_right r main queue annex
+    unfolding slices_right
+    lent-annex taken e q t = rw (eq-eqb main (2 ^ r.k) e, q, t)
+
+    pub lent-queue : main ≡ 2 ^ r.k → leb r.queued queue ≡ false → false ≡ slices_right r main queue annex
+    unfolding slices_right
+    lent-queue e q = rw (eq-eqb main (2 ^ r.k) e, q)
+
+    pub lent-main : (main ≡ 2 ^ r.k → ⊥) → false ≡ slices_right r main queue annex
+    unfolding slices_right
+    lent-main n = rw (ne_eqb main (2 ^ r.k) n)
 
   -- 2, 3 or neither
   pub first-0 : (m q a : ℕ) → record_right r ≡ true → slices_right r m q a ≡ true → 0 ≡ first_number r m q a
@@ -71,22 +90,6 @@ module _ (r : Filter) where
   pub first-2 : (m q a : ℕ) → record_right r ≡ false → 2 ≡ first_number r m q a
   unfolding first_number refusal
   first-2 m q a x = rw (x, refusal)
-
-  -- 2 is given exactly where the record is not right
-  pub right-by-first : (m q a n : ℕ) → n ≡ first_number r m q a → (n ≡ 2 → ⊥) → record_right r ≡ true
-  right-by-first m q a n e ne = go (record_right r) refl
-    where
-      go : (b : Bool) → record_right r ≡ b → record_right r ≡ true
-      go true x = x
-      go false x = absurd (ne (e ∙ sym (first-2 m q a x)))
-
-  pub wrong-by-first : (m q a n : ℕ) → n ≡ first_number r m q a → n ≡ 2 → record_right r ≡ false
-  wrong-by-first m q a n e two = go (record_right r) (slices_right r m q a) refl refl
-    where
-      go : (b s : Bool) → record_right r ≡ b → slices_right r m q a ≡ s → record_right r ≡ false
-      go false s x y = x
-      go true true x y = absurd (omega (arith, first-0 m q a x y))
-      go true false x y = absurd (omega (arith, first-3 m q a x y))
 
   -- the width that is asked for
   pub asked-width : (w : ℕ) → record_right r ≡ true → w ≡ width r → w ≡ width_asked r

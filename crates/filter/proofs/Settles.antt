@@ -16,7 +16,8 @@ module _ (r : Filter) (main queue annex : List ℕ) where
   unfolding settle refused
   settle-refused zero e ne = absurd (ne refl)
   settle-refused (suc n) e ne =
-      rw (given r main queue annex (audit r main queue annex) n (settled r main queue annex (held_after r main queue annex)) (sym e)) (leaves (refused r main queue annex (suc n)))
+      rw (given r main queue annex (audit r main queue annex) n (settled r main queue annex (held_after r main queue annex)) (sym e))
+      (leaves (refused r main queue annex (suc n)))
 
   pub ready : 0 ≡ audit r main queue annex → (w : ℕ) → w ≡ width r → settling.Ready r.k w r.used r.queued r.dir main queue annex
   ready z w ew =
@@ -45,6 +46,7 @@ module _ (r : Filter) (main queue annex : List ℕ) where
       }
 
   pub settle-done : 0 ≡ audit r main queue annex → (main' annex' : List ℕ) (u : ℕ) (d : List Place)
-      → settling.Leaves (settled r main queue annex (held_after r main queue annex)) main' annex' u d → Leaves (settle r main queue annex) 0 (change r r.k u 0 d) main' queue annex'
+      → settling.Leaves (settled r main queue annex (held_after r main queue annex)) main' annex' u d
+      → Leaves (settle r main queue annex) 0 (change r r.k u 0 d) main' queue annex'
   unfolding settle give
   settle-done z main' annex' u d l = rw (sym z, give) (done main' annex' u d l)

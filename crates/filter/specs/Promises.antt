@@ -1,12 +1,13 @@
 -- Document 01, "How tight a contract has to be": "Each public call's contract determines its answer, record and every lent word for all inputs, refused ones too".
-use Rattle.std.specs.Prelude.{◌≡◌, Bool, true, cond, List, [], ◌∷◌, ℕ, suc, ◌<◌, T, length}
-use Rattle.slots.specs.Payload.{length_of}
-use Rattle.rules.specs.Record.{Filter, change, fresh, width}
+use Rattle.std.specs.Prelude.{◌≡◌, Bool, true, false, cond, List, [], ◌∷◌, ℕ, suc, ◌<◌, T, length, Option, Some, None, Result, Ok, Err}
+use Rattle.rules.specs.Record.{Filter, change}
 use Rattle.rules.specs.Refusals.{refusal, record_right, slices_right}
 use Rattle.rules.specs.Sound.{sound}
 use Rattle.rules.specs.Calls.{Outcome, refused, start}
-use Rattle.rules.specs.Quick.{home, matched, best, fresh_entry, query_number, insert, insert_number, delete, rejuvenate}
+use Rattle.rules.specs.Quick.{home, matched, best, query_number, insert, insert_number, delete, rejuvenate}
 use Rattle.rules.specs.Slow.{audit, settle, hashes, room_for, double_number, double, second_main}
+use Rattle.filter.specs.declared.Refusal.{Refusal}
+use Rattle.filter.specs.Numbers.{number_of}
 
 -- the number as far as 2 and 3 go, by the record and the lengths of main, queue and annex
 unfoldable pub first_number : Filter → ℕ → ℕ → ℕ → ℕ
@@ -62,19 +63,20 @@ pub record Doubles (r : Filter) (main queue annex second : List ℕ) (number : �
   pub left : Leaves (double r main queue annex (length second)) number rec' main' queue' annex'
   pub second_is : second' ≡ second_main r main queue annex second
 
--- ---- what holds between the parts of Delete and of Rejuvenate
+-- ---- what holds between the parts of the quick calls
 
--- what Delete and Rejuvenate have found when they come to change a run: 2 and 3 are not given, c is the canonical slot of h, and p is its longest match
+-- the longest match of h: 2 and 3 are not given, c is the canonical slot of h, and p is its longest match
 pub record Chosen (r : Filter) (main queue annex : List ℕ) (h c p : ℕ) : Type 0 where
   pub lent : 0 ≡ first_number r (length main) (length queue) (length annex)
   pub slot : c ≡ home r h
   pub some : matched r main h ≡ true
   pub entry : p ≡ best r main h
 
--- .. and that Rejuvenate makes a fresh entry of an entry shorter than fresh ones
-pub record Renewing (r : Filter) (h p q : ℕ) : Type 0 where
-  pub shorter : length_of (width r) p < fresh r
-  pub becomes : q ≡ fresh_entry r h
+-- what the walk to the longest match of h finds: a refusal that record and lengths decide, or else the match, if there is one
+abbrev pub Sought : Filter → List ℕ → List ℕ → List ℕ → ℕ → Result (Option ℕ) Refusal → Type 0
+Sought r main queue annex h (Err refusal) = number_of refusal ≡ first_number r (length main) (length queue) (length annex)
+Sought r main queue annex h (Ok None) = (0 ≡ first_number r (length main) (length queue) (length annex)) × (matched r main h ≡ false)
+Sought r main queue annex h (Ok (Some p)) = Chosen r main queue annex h (home r h) p
 
 -- Double's number before the annex is asked for room: a refusal is the definition's, and where there is none only 10 is left
 pub record BeforeRoom (r : Filter) (main queue annex : List ℕ) (second number : ℕ) : Type 0 where

@@ -1,23 +1,57 @@
 #![tactic(auto)]
 
 // The record of a filter, by value, and its calls.
-ghost use Rattle.std.specs.Prelude.{◌≡◌, ◌+◌, ◌*◌, ◌≤◌, ◌<◌, T, length, replicate};
-ghost use Rattle.directory.specs.Places.{no_place, offset_in};
-ghost use Rattle.rules.specs.Record.{fresh, width, width_at, in_use, annex_used, all_zero};
+ghost use Rattle.std.specs.Prelude.{◌≡◌, List, ℕ, ◌+◌, ◌*◌, ◌≤◌, ◌<◌, T, IsTrue, SomeIff, length, set};
+ghost use Rattle.directory.specs.Places.{offset_in};
+ghost use Rattle.rules.specs.Record.{fresh, width, width_at, in_use, annex_used};
 ghost use Rattle.rules.specs.Refusals.{settings_right, record_right, slices_right};
-ghost use Rattle.rules.specs.Quick.{query};
+ghost use Rattle.rules.specs.Quick.{home, fresh_entry, queue_full, query};
 ghost use Rattle.rules.specs.Slow.{audit};
 ghost use Rattle.rules.specs.Lookups.{part};
+ghost use Rattle.filter.specs.Numbers.{number_of, outcome_number, answer_number};
 ghost use Rattle.filter.specs.Plain.{plain};
 ghost use Rattle.filter.specs.Restart.{restart};
-ghost use Rattle.filter.specs.Widths.{width_asked};
-ghost use Rattle.slots.specs.Payload.{void};
-ghost use Rattle.filter.specs.Promises.{first_number, Starts, Inserts, Deletes, Rejuvenates, Audits, Settles, Doubles, Chosen, Renewing, BeforeRoom, Leaves};
+ghost use Rattle.filter.specs.Promises.{first_number, Starts, Inserts, Deletes, Rejuvenates, Audits, Settles, Doubles, Sought, BeforeRoom, Leaves};
 
-use directory::{Place, Reading};
+use directory::Place;
+
+// Why a call is refused: section 9 of docs/RULES.md says when.
+#[derive(Clone, Copy, PartialEq, Eq)]
+pub enum Refusal {
+    Record,
+    Lengths,
+    NotSound,
+    Full,
+    NothingThere,
+    QueueFull,
+    QueueInUse,
+    LargestSize,
+    AnnexTooShort,
+    Settings,
+}
+
+// The numbers of the C interface.
+impl From<Refusal> for u32 {
+    ghost from_gives = { λ refusal number. number ≡ number_of refusal };
+
+    fn from(refusal: Refusal) -> u32 {
+        match refusal {
+            Refusal::Record => 2,
+            Refusal::Lengths => 3,
+            Refusal::NotSound => 4,
+            Refusal::Full => 5,
+            Refusal::NothingThere => 6,
+            Refusal::QueueFull => 7,
+            Refusal::QueueInUse => 8,
+            Refusal::LargestSize => 9,
+            Refusal::AnnexTooShort => 10,
+            Refusal::Settings => 11,
+        }
+    }
+}
 
 #[repr(C)]
-#[derive(Clone, Copy)]
+#[derive(Clone, Copy, Default)]
 pub struct Record {
     pub k: u32,
     pub start: u32,
@@ -28,62 +62,74 @@ pub struct Record {
     pub dir: [Place; 15],
 }
 
-// A call's number and the record after it.
+// How a call ended, and the record after it. A call is lent main, queue and annex one by one, as C lends them: each promises something of each.
 #[derive(Clone, Copy)]
 pub struct Answer {
-    pub number: u32,
+    pub outcome: Result<(), Refusal>,
     pub rec: Record,
+}
+
+// The number of how a call ended: 0, or that of the refusal.
+pub fn outcome_number(outcome: Result<(), Refusal>) -> u32
+    ensures { result ≡ outcome_number outcome }
+{
+    match outcome {
+        Ok(()) => 0,
+        Err(refusal) => u32::from(refusal),
+    }
+}
+
+// The number of Query's answer: 0 is no, 1 is yes.
+pub fn answer_number(answer: Result<bool, Refusal>) -> u32
+    ensures { result ≡ answer_number answer }
+{
+    match answer {
+        Ok(found) => u32::from(found),
+        Err(refusal) => refusal.into(),
+    }
 }
 
 fn settings_right(power: u32, f: u32, regime: u32) -> bool
     ensures { result ≡ settings_right power f regime }
 {
-    ((3 <= power) & (power <= 10)) & (((3 <= f) & (f <= 15)) & (regime <= 1))
+    3 <= power && power <= 10 && 3 <= f && f <= 15 && regime <= 1
 }
 
 impl Record {
-    // Whether number 2 is not given, and the words of the annex tables in use where it is not.
-    fn in_range(self) -> Reading
-        ensures { (result.right ≡ record_right (plain self)) × (T (record_right (plain self)) → result.words ≡ annex_used (plain self)) }
+    // The words of the annex tables in use, unless the record is out of range.
+    fn in_range(self) -> Option<usize>
+        ensures { SomeIff result (IsTrue (record_right (plain self))) (annex_used (plain self)) }
     {
-        let k = self.k;
-        if settings_right(self.start, self.f, self.regime) {
-            if (self.start <= k) & (k <= 20) {
-                let most = slots::limit_of(k);
-                if (self.used <= most) & (self.queued <= 1048576) {
-                    let dir = self.dir;
-                    return directory::read(k, dir);
-                }
-            }
+        if !settings_right(self.start, self.f, self.regime) {
+            return None;
         }
-        Reading {
-            right: false,
-            words: 0,
+        if self.k < self.start || self.k > 20 {
+            return None;
         }
+        if self.used > slots::limit_of(self.k) || self.queued > 1048576 {
+            return None;
+        }
+        directory::read(self.k, self.dir)
     }
 
-    // Number 3 is not given, where the annex tables take so many words.
+    // Whether the lengths are right, where the annex tables take so many words.
     fn lent_right(self, taken: usize, main: usize, queue: usize, annex: usize) -> bool
         requires { T (record_right (plain self)) × (taken ≡ annex_used (plain self)) }
         ensures { result ≡ slices_right (plain self) main queue annex }
     {
-        let slots = slots::pow2(self.k) as usize;
-        let queued = self.queued as usize;
-        (main == slots) & ((queued <= queue) & (taken <= annex))
+        main == slots::pow2(self.k) as usize && self.queued as usize <= queue && taken <= annex
     }
 
-    // 2, 3, or 0 where neither is given.
-    pub fn first_number(self, main: usize, queue: usize, annex: usize) -> u32
-        ensures { result ≡ first_number (plain self) main queue annex }
+    // The first tests of every call but Start, on the record and then on the lengths.
+    pub fn first_refusal(self, main: usize, queue: usize, annex: usize) -> Result<(), Refusal>
+        ensures { outcome_number result ≡ first_number (plain self) main queue annex }
     {
-        let read = self.in_range();
-        if read.right {
-            if self.lent_right(read.words, main, queue, annex) {
-                return 0; // neither
-            }
-            return 3; // the lengths
+        let taken = self.in_range().ok_or(Refusal::Record)?;
+        if self.lent_right(taken, main, queue, annex) {
+            Ok(()) // as the record asks
+        } else {
+            Err(Refusal::Lengths) // of main, queue or annex
         }
-        2
     }
 
     // The length of fresh fingerprints.
@@ -102,32 +148,76 @@ impl Record {
         self.fresh_length() + 1
     }
 
-    // The width of payloads, or 0 where number 2 is given.
-    pub fn payload_width(self) -> u32
-        ensures { result ≡ width_asked (plain self) }
+    // The width of payloads, unless the record is out of range.
+    pub fn payload_width(self) -> Option<u32>
+        ensures { SomeIff result (IsTrue (record_right (plain self))) (width (plain self)) }
     {
-        let read = self.in_range();
-        if read.right {
-            return self.width();
-        }
-        0 // number 2
+        self.in_range()?;
+        Some(self.width())
     }
 
-    pub fn query(self, main: &[u32], queue: &[u32], annex: &[u32], hash: u64) -> u32
-        ensures { result ≡ query (plain self) main.now queue.now annex.now hash }
+    // The canonical slot of a hash.
+    fn home(&self, hash: u64) -> usize
+        requires { T (record_right (plain self.now)) }
+        ensures { result ≡ home (plain self.now) hash }
     {
-        let n = self.first_number(main.len(), queue.len(), annex.len());
-        if n != 0 {
-            return n;
+        slots::canonical(hash, self.k) as usize
+    }
+
+    // The payload of a hash as it is inserted.
+    fn fresh_entry(&self, hash: u64) -> u32
+        requires { T (record_right (plain self.now)) }
+        ensures { (result ≡ fresh_entry (plain self.now) hash) × (result < 536870912) }
+    {
+        slots::fresh(hash, self.k, self.width(), self.fresh_length())
+    }
+
+    // The longest match of a hash, after the first tests. A call that is not inlined would cost Delete a seventh.
+    #[inline(always)]
+    fn longest_match(
+        &self,
+        main: &[u32],
+        queue: &[u32],
+        annex: &[u32],
+        hash: u64,
+    ) -> Result<Option<u32>, Refusal>
+        ensures { Sought (plain self.now) main.now queue.now annex.now hash result }
+    {
+        self.first_refusal(main.len(), queue.len(), annex.len())?;
+        Ok(lookup::first_match(main, self.home(hash), self.width(), self.k, hash))
+    }
+
+    pub fn query(
+        self,
+        main: &[u32],
+        queue: &[u32],
+        annex: &[u32],
+        hash: u64,
+    ) -> Result<bool, Refusal>
+        ensures { answer_number result ≡ query (plain self) main.now queue.now annex.now hash }
+    {
+        let found = self.longest_match(main, queue, annex, hash)?;
+        Ok(found.is_some())
+    }
+
+    // A call that changes anything is a function over the record in place, and one around it that takes and hands back the record by value.
+    fn insert_into(
+        &mut self,
+        main: &mut [u32],
+        queue: &[u32],
+        annex: &[u32],
+        hash: u64,
+    ) -> Result<(), Refusal>
+        ensures { Inserts (plain self.old) main.old queue.now annex.now hash
+            (outcome_number result) (plain self.new) main.new queue.now annex.now }
+    {
+        self.first_refusal(main.len(), queue.len(), annex.len())?;
+        if self.used == slots::limit_of(self.k) {
+            return Err(Refusal::Full);
         }
-        let k = self.k;
-        let w = self.width();
-        let c = slots::canonical(hash, k) as usize;
-        let m = lookup::first_match(main, c, w, k, hash);
-        if m.found {
-            return 1;
-        }
-        0 // no
+        table::insert(main, self.home(hash), self.fresh_entry(hash));
+        self.used += 1;
+        Ok(())
     }
 
     pub fn insert(
@@ -138,329 +228,179 @@ impl Record {
         hash: u64,
     ) -> Answer
         ensures { Inserts (plain self) main.old queue.old annex.old hash
-            result.number (plain result.rec) main.new queue.new annex.new }
+            (outcome_number result.outcome) (plain result.rec) main.new queue.new annex.new }
     {
-        let n = self.first_number(main.len(), queue.len(), annex.len());
-        if n != 0 {
-            return Answer {
-                number: n,
-                rec: self,
-            };
-        }
-        let k = self.k;
-        let used = self.used;
-        if used == slots::limit_of(k) {
-            return Answer {
-                number: 5,
-                rec: self,
-            };
-        }
-        let w = self.width();
-        let l = self.fresh_length();
-        let c = slots::canonical(hash, k) as usize;
-        let p = slots::fresh(hash, k, w, l);
-        table::insert(main, c, p);
-        self.used = used + 1;
-        Answer {
-            number: 0,
-            rec: self,
-        }
+        let outcome = self.insert_into(main, queue, annex, hash);
+        Answer { outcome, rec: self }
     }
 
-    // Delete of the longest match, an entry with bits.
-    fn delete_bits(
-        mut self,
+    // Whether the queue has no room for another word.
+    fn queue_full(&self, queue: &[u32]) -> bool
+        ensures { result ≡ queue_full (plain self.now) queue.now }
+    {
+        self.queued == 1048576 || self.queued as usize == queue.len()
+    }
+
+    // The queue gains a word.
+    fn push(&mut self, queue: &mut [u32], word: u32)
+        requires { (self.old.queued < length queue.old) × (self.old.queued < 1048576) }
+        ensures { (self.new ≡ record self.old { queued = self.old.queued + 1 }) × (queue.new ≡ set queue.old self.old.queued word) }
+    {
+        queue[self.queued as usize] = word;
+        self.queued += 1;
+    }
+
+    // The longest match goes: an entry with bits is removed, and a void becomes a tombstone.
+    fn delete_from(
+        &mut self,
         main: &mut [u32],
         queue: &mut [u32],
-        annex: &mut [u32],
+        annex: &[u32],
         hash: u64,
-        c: usize,
-        p: u32,
-    ) -> Answer
-        requires { Chosen (plain self) main.old queue.old annex.old hash c p × (p ≡ void (width (plain self)) → ⊥) }
-        ensures { Deletes (plain self) main.old queue.old annex.old hash
-            result.number (plain result.rec) main.new queue.new annex.new }
+    ) -> Result<(), Refusal>
+        ensures { Deletes (plain self.old) main.old queue.old annex.now hash
+            (outcome_number result) (plain self.new) main.new queue.new annex.now }
     {
-        let used = self.used;
-        if used == 0 {
-            return Answer {
-                number: 6, // memory is not sound
-                rec: self,
-            };
-        }
-        let gone = table::remove(main, c, p);
-        if gone {
-            self.used = used - 1;
-            return Answer {
-                number: 0,
-                rec: self,
-            };
-        }
-        Answer {
-            number: 6, // memory is not sound
-            rec: self,
-        }
-    }
-
-    // Delete of the longest match, a void.
-    fn delete_void(
-        mut self,
-        main: &mut [u32],
-        queue: &mut [u32],
-        annex: &mut [u32],
-        hash: u64,
-        c: usize,
-        p: u32,
-    ) -> Answer
-        requires { Chosen (plain self) main.old queue.old annex.old hash c p × (p ≡ void (width (plain self))) }
-        ensures { Deletes (plain self) main.old queue.old annex.old hash
-            result.number (plain result.rec) main.new queue.new annex.new }
-    {
-        let queued = self.queued;
-        let q = queued as usize;
-        if queued == 1048576 {
-            return Answer {
-                number: 7,
-                rec: self,
-            };
-        }
-        if q == queue.len() {
-            return Answer {
-                number: 7,
-                rec: self,
-            };
-        }
-        let raised = table::raise_last(main, c, p);
-        if raised {
-            queue[q] = c as u32 * 2;
-            self.queued = queued + 1;
-            return Answer {
-                number: 0,
-                rec: self,
-            };
-        }
-        Answer {
-            number: 6, // memory is not sound
-            rec: self,
-        }
-    }
-
-    pub fn delete(self, main: &mut [u32], queue: &mut [u32], annex: &mut [u32], hash: u64) -> Answer
-        ensures { Deletes (plain self) main.old queue.old annex.old hash
-            result.number (plain result.rec) main.new queue.new annex.new }
-    {
-        let n = self.first_number(main.len(), queue.len(), annex.len());
-        if n != 0 {
-            return Answer {
-                number: n,
-                rec: self,
-            };
-        }
-        let k = self.k;
-        let w = self.width();
-        let c = slots::canonical(hash, k) as usize;
-        let m = lookup::first_match(main, c, w, k, hash);
-        if m.found {
-            let p = m.payload;
-            let v = slots::void_of(w);
-            if p == v {
-                return self.delete_void(main, queue, annex, hash, c, p);
+        let payload = self
+            .longest_match(main, queue, annex, hash)?
+            .ok_or(Refusal::NothingThere)?; // nothing to delete
+        let home = self.home(hash);
+        if payload == slots::void_of(self.width()) {
+            if self.queue_full(queue) {
+                return Err(Refusal::QueueFull);
             }
-            return self.delete_bits(main, queue, annex, hash, c, p);
+            if !table::raise_last(main, home, payload) {
+                return Err(Refusal::NothingThere); // memory is not sound
+            }
+            self.push(queue, home as u32 * 2);
+            return Ok(());
         }
-        Answer {
-            number: 6, // nothing to delete
-            rec: self,
+        if self.used == 0 {
+            return Err(Refusal::NothingThere); // memory is not sound
         }
+        if !table::remove(main, home, payload) {
+            return Err(Refusal::NothingThere); // memory is not sound
+        }
+        self.used -= 1;
+        Ok(())
     }
 
-    // Rejuvenate of the longest match, an entry with bits that is shorter than fresh ones.
-    fn renew_bits(
-        self,
-        main: &mut [u32],
-        queue: &mut [u32],
-        annex: &mut [u32],
-        hash: u64,
-        c: usize,
-        p: u32,
-        fresh: u32,
-    ) -> Answer
-        requires { Chosen (plain self) main.old queue.old annex.old hash c p × (p ≡ void (width (plain self)) → ⊥)
-            × Renewing (plain self) hash p fresh }
-        ensures { Rejuvenates (plain self) main.old queue.old annex.old hash
-            result.number (plain result.rec) main.new queue.new annex.new }
-    {
-        let renewed = table::exchange(main, c, p, fresh);
-        if renewed {
-            return Answer {
-                number: 0,
-                rec: self,
-            };
-        }
-        Answer {
-            number: 6, // memory is not sound
-            rec: self,
-        }
-    }
-
-    // Rejuvenate of the longest match, a void.
-    fn renew_void(
+    pub fn delete(
         mut self,
         main: &mut [u32],
         queue: &mut [u32],
         annex: &mut [u32],
         hash: u64,
-        c: usize,
-        p: u32,
-        fresh: u32,
     ) -> Answer
-        requires { Chosen (plain self) main.old queue.old annex.old hash c p × (p ≡ void (width (plain self)))
-            × Renewing (plain self) hash p fresh }
-        ensures { Rejuvenates (plain self) main.old queue.old annex.old hash
-            result.number (plain result.rec) main.new queue.new annex.new }
+        ensures { Deletes (plain self) main.old queue.old annex.old hash
+            (outcome_number result.outcome) (plain result.rec) main.new queue.new annex.new }
     {
-        let queued = self.queued;
-        let q = queued as usize;
-        if queued == 1048576 {
-            return Answer {
-                number: 7,
-                rec: self,
-            };
-        }
-        if q == queue.len() {
-            return Answer {
-                number: 7,
-                rec: self,
-            };
-        }
-        let renewed = table::exchange(main, c, p, fresh);
-        if renewed {
-            queue[q] = c as u32 * 2 + 1;
-            self.queued = queued + 1;
-            return Answer {
-                number: 0,
-                rec: self,
-            };
-        }
-        Answer {
-            number: 6, // memory is not sound
-            rec: self,
-        }
+        let outcome = self.delete_from(main, queue, annex, hash);
+        Answer { outcome, rec: self }
     }
 
-    // Rejuvenate of the longest match p.
-    fn renew(
-        self,
+    // The longest match, if it is shorter than fresh entries, becomes one.
+    fn rejuvenate_in(
+        &mut self,
         main: &mut [u32],
         queue: &mut [u32],
-        annex: &mut [u32],
+        annex: &[u32],
         hash: u64,
-        c: usize,
-        p: u32,
-    ) -> Answer
-        requires { Chosen (plain self) main.old queue.old annex.old hash c p }
-        ensures { Rejuvenates (plain self) main.old queue.old annex.old hash
-            result.number (plain result.rec) main.new queue.new annex.new }
+    ) -> Result<(), Refusal>
+        ensures { Rejuvenates (plain self.old) main.old queue.old annex.now hash
+            (outcome_number result) (plain self.new) main.new queue.new annex.now }
     {
-        let k = self.k;
-        let w = self.width();
-        let l = self.fresh_length();
-        if l <= slots::length_of(p, w) {
-            return Answer {
-                number: 0,
-                rec: self,
-            };
+        let payload = self
+            .longest_match(main, queue, annex, hash)?
+            .ok_or(Refusal::NothingThere)?; // nothing to rejuvenate
+        let home = self.home(hash);
+        let width = self.width();
+        if self.fresh_length() <= slots::length_of(payload, width) {
+            return Ok(());
         }
-        let fresh = slots::fresh(hash, k, w, l);
-        let v = slots::void_of(w);
-        if p == v {
-            return self.renew_void(main, queue, annex, hash, c, p, fresh);
+        let fresh = self.fresh_entry(hash);
+        let is_void = payload == slots::void_of(width);
+        if is_void && self.queue_full(queue) {
+            return Err(Refusal::QueueFull);
         }
-        self.renew_bits(main, queue, annex, hash, c, p, fresh)
+        if !table::exchange(main, home, payload, fresh) {
+            return Err(Refusal::NothingThere); // memory is not sound
+        }
+        if is_void {
+            self.push(queue, home as u32 * 2 + 1);
+        }
+        Ok(())
     }
 
     pub fn rejuvenate(
-        self,
+        mut self,
         main: &mut [u32],
         queue: &mut [u32],
         annex: &mut [u32],
         hash: u64,
     ) -> Answer
         ensures { Rejuvenates (plain self) main.old queue.old annex.old hash
-            result.number (plain result.rec) main.new queue.new annex.new }
+            (outcome_number result.outcome) (plain result.rec) main.new queue.new annex.new }
     {
-        let n = self.first_number(main.len(), queue.len(), annex.len());
-        if n != 0 {
-            return Answer {
-                number: n,
-                rec: self,
-            };
-        }
-        let k = self.k;
-        let w = self.width();
-        let c = slots::canonical(hash, k) as usize;
-        let m = lookup::first_match(main, c, w, k, hash);
-        if m.found {
-            let p = m.payload;
-            return self.renew(main, queue, annex, hash, c, p);
-        }
-        Answer {
-            number: 6, // nothing to rejuvenate
-            rec: self,
-        }
+        let outcome = self.rejuvenate_in(main, queue, annex, hash);
+        Answer { outcome, rec: self }
     }
 
-    pub fn audit(self, main: &[u32], queue: &[u32], annex: &[u32]) -> u32
-        ensures { result ≡ audit (plain self) main.now queue.now annex.now }
+    pub fn audit(self, main: &[u32], queue: &[u32], annex: &[u32]) -> Result<(), Refusal>
+        ensures { outcome_number result ≡ audit (plain self) main.now queue.now annex.now }
     {
-        let n = self.first_number(main.len(), queue.len(), annex.len());
-        if n != 0 {
-            return n;
-        }
-        let w = self.width();
+        self.first_refusal(main.len(), queue.len(), annex.len())?;
+        let width = self.width();
         let queued = self.queued as usize;
-        let dir = self.dir;
-        if audit::state_right(main, self.used, self.k, w, queue, queued, dir, annex) {
-            return 0;
+        if audit::state_right(
+            main, self.used, self.k, width, queue, queued, self.dir, annex,
+        ) {
+            Ok(())
+        } else {
+            Err(Refusal::NotSound)
         }
-        4
     }
 
     // Audit as a call that answers the record: it is the one handed in.
     pub fn audited(self, main: &mut [u32], queue: &mut [u32], annex: &mut [u32]) -> Answer
         ensures { Audits (plain self) main.old queue.old annex.old
-            result.number (plain result.rec) main.new queue.new annex.new }
+            (outcome_number result.outcome) (plain result.rec) main.new queue.new annex.new }
     {
-        let n = self.audit(main, queue, annex);
         Answer {
-            number: n,
+            outcome: self.audit(main, queue, annex),
             rec: self,
         }
     }
 
-    pub fn settle(mut self, main: &mut [u32], queue: &mut [u32], annex: &mut [u32]) -> Answer
-        ensures { Settles (plain self) main.old queue.old annex.old
-            result.number (plain result.rec) main.new queue.new annex.new }
+    fn settle_in(
+        &mut self,
+        main: &mut [u32],
+        queue: &[u32],
+        annex: &mut [u32],
+    ) -> Result<(), Refusal>
+        ensures { Settles (plain self.old) main.old queue.now annex.old
+            (outcome_number result) (plain self.new) main.new queue.now annex.new }
     {
-        let n = self.audit(main, queue, annex);
-        if n != 0 {
-            return Answer {
-                number: n,
-                rec: self,
-            };
-        }
-        let w = self.width();
+        self.audit(main, queue, annex)?;
+        let width = self.width();
         let queued = self.queued as usize;
-        let dir = self.dir;
-        let left = settling::settle(main, queue, annex, self.k, w, self.used, queued, dir);
+        let left = settling::settle(
+            main, queue, annex, self.k, width, self.used, queued, self.dir,
+        );
+        // The check stores an array in a field only from a variable.
         let places = left.places;
         self.used = left.used;
         self.queued = 0;
         self.dir = places;
-        Answer {
-            number: 0,
-            rec: self,
-        }
+        Ok(())
+    }
+
+    pub fn settle(mut self, main: &mut [u32], queue: &mut [u32], annex: &mut [u32]) -> Answer
+        ensures { Settles (plain self) main.old queue.old annex.old
+            (outcome_number result.outcome) (plain result.rec) main.new queue.new annex.new }
+    {
+        let outcome = self.settle_in(main, queue, annex);
+        Answer { outcome, rec: self }
     }
 
     // The words of the annex tables in use.
@@ -468,9 +408,7 @@ impl Record {
         requires { T (record_right (plain self)) }
         ensures { (result ≡ annex_used (plain self)) × (result ≤ 1048576) }
     {
-        let dir = self.dir;
-        let n = directory::places_in_use(dir);
-        directory::words_taken(dir, n)
+        directory::words_taken(self.dir, directory::places_in_use(self.dir))
     }
 
     // The width of payloads after the next doubling.
@@ -481,29 +419,59 @@ impl Record {
         self.f + slots::extra_bits(self.regime, self.k + 1 - self.start) + 1
     }
 
-    // 2, 9, 3, 4, 8, or 0 where none of them is given to Double, which is lent a second main of `second` words.
-    fn double_number(self, main: &[u32], queue: &[u32], annex: &[u32], second: usize) -> u32
-        ensures { BeforeRoom (plain self) main.now queue.now annex.now second result }
+    // The tests of Double, which is lent a second main of `second` words, before the annex is asked for room.
+    fn double_refusal(
+        self,
+        main: &[u32],
+        queue: &[u32],
+        annex: &[u32],
+        second: usize,
+    ) -> Result<(), Refusal>
+        ensures { BeforeRoom (plain self) main.now queue.now annex.now second (outcome_number result) }
     {
-        let first = self.first_number(main.len(), queue.len(), annex.len());
-        if first == 2 {
-            return 2; // Double too
-        }
+        self.in_range().ok_or(Refusal::Record)?;
         if self.k == 20 {
-            return 9;
+            return Err(Refusal::LargestSize);
         }
-        let wanted = slots::pow2(self.k + 1) as usize;
-        if second != wanted {
-            return 3; // the second main
+        if second != slots::pow2(self.k + 1) as usize {
+            return Err(Refusal::Lengths); // the second main
         }
-        let n = self.audit(main, queue, annex);
-        if n != 0 {
-            return n;
+        self.audit(main, queue, annex)?;
+        if self.queued == 0 {
+            Ok(())
+        } else {
+            Err(Refusal::QueueInUse)
         }
-        if self.queued != 0 {
-            return 8;
+    }
+
+    fn double_into(
+        &mut self,
+        main: &[u32],
+        queue: &[u32],
+        annex: &mut [u32],
+        second: &mut [u32],
+    ) -> Result<(), Refusal>
+        ensures { Doubles (plain self.old) main.now queue.now annex.old second.old
+            (outcome_number result) (plain self.new) main.now queue.now annex.new second.new }
+    {
+        self.double_refusal(main, queue, annex, second.len())?;
+        let width = self.width();
+        let next = self.next_width();
+        let taken = self.annex_used();
+        let new = doubling::count_new(main, width);
+        if !doubling::room_for(annex, taken, new) {
+            return Err(Refusal::AnnexTooShort);
         }
-        0 // as far as these go
+        let made = doubling::double(
+            main, second, annex, self.k, width, next, taken, new, self.dir,
+        );
+        // As above: from a variable.
+        let places = made.places;
+        self.k += 1;
+        self.used = made.used;
+        self.queued = 0;
+        self.dir = places;
+        Ok(())
     }
 
     pub fn double(
@@ -514,36 +482,10 @@ impl Record {
         second: &mut [u32],
     ) -> Answer
         ensures { Doubles (plain self) main.old queue.old annex.old second.old
-            result.number (plain result.rec) main.new queue.new annex.new second.new }
+            (outcome_number result.outcome) (plain result.rec) main.new queue.new annex.new second.new }
     {
-        let n = self.double_number(main, queue, annex, second.len());
-        if n != 0 {
-            return Answer {
-                number: n,
-                rec: self,
-            };
-        }
-        let w = self.width();
-        let v = self.next_width();
-        let taken = self.annex_used();
-        let new = doubling::count_new(main, w);
-        if doubling::room_for(annex, taken, new) {
-            let dir = self.dir;
-            let made = doubling::double(main, second, annex, self.k, w, v, taken, new, dir);
-            let places = made.places;
-            self.k = self.k + 1;
-            self.used = made.used;
-            self.queued = 0;
-            self.dir = places;
-            return Answer {
-                number: 0,
-                rec: self,
-            };
-        }
-        Answer {
-            number: 10,
-            rec: self,
-        }
+        let outcome = self.double_into(main, queue, annex, second);
+        Answer { outcome, rec: self }
     }
 
     // The words of the annex table of length b, a part of the annex itself, or an empty part. An offset counts bytes, four to a word.
@@ -552,72 +494,38 @@ impl Record {
         ensures itself { result.ref_ptr.0 ≡ annex.entry.ref_ptr.0 }
         ensures there { 0 < length result.now → result.ref_ptr.1 ≡ annex.entry.ref_ptr.1 + 4 * offset_in b (in_use (plain self)) }
     {
-        let read = self.in_range();
-        if read.right {
-            let dir = self.dir;
-            let n = directory::places_in_use(dir);
-            if directory::words_taken(dir, n) <= annex.len() {
-                return places::part(annex, dir, b);
-            }
-            return &annex[0..0];
+        match self.in_range() {
+            Some(taken) if taken <= annex.len() => places::part(annex, self.dir, b),
+            _ => &annex[0..0],
         }
-        &annex[0..0]
     }
-}
 
-fn no_places() -> [Place; 15]
-    ensures { result ≡ replicate 15 no_place }
-{
-    [Place {
-        b: 0,
-        s: 0,
-        count: 0,
-    }; 15]
-}
-
-impl Record {
-    pub fn start(
-        main: &mut [u32],
-        queue: &mut [u32],
-        annex: &mut [u32],
-        power: u32,
-        f: u32,
-        regime: u32,
-    ) -> Answer
-        ensures { Starts power f regime main.old queue.old annex.old
-            result.number (plain result.rec) main.new queue.new annex.new }
+    // An empty filter over main, which needs neither queue nor annex.
+    fn start_in(&mut self, main: &mut [u32], power: u32, f: u32, regime: u32) -> Result<(), Refusal>
+        ensures { (queue annex : List ℕ) → Leaves
+            (restart (plain self.old) power f regime main.old queue annex)
+            (outcome_number result) (plain self.new) main.new queue annex }
     {
-        if settings_right(power, f, regime) {
-            let slots = slots::pow2(power) as usize;
-            if main.len() == slots {
-                table::clear(main);
-                return Answer {
-                    number: 0,
-                    rec: Record {
-                        k: power,
-                        start: power,
-                        f: f,
-                        regime: regime,
-                        used: 0,
-                        queued: 0,
-                        dir: no_places(),
-                    },
-                };
-            }
-            return Answer {
-                number: 3,
-                rec: all_zero(),
-            };
+        if !settings_right(power, f, regime) {
+            return Err(Refusal::Settings);
         }
-        Answer {
-            number: 11,
-            rec: all_zero(),
+        if main.len() != slots::pow2(power) as usize {
+            return Err(Refusal::Lengths);
         }
+        table::clear(main);
+        *self = Record {
+            k: power,
+            start: power,
+            f,
+            regime,
+            ..Record::default()
+        };
+        Ok(())
     }
 
     // Start over this record, which is answered where Start is refused.
     pub fn restart(
-        self,
+        mut self,
         main: &mut [u32],
         queue: &mut [u32],
         annex: &mut [u32],
@@ -627,29 +535,23 @@ impl Record {
     ) -> Answer
         ensures { Leaves
             (restart (plain self) power f regime main.old queue.old annex.old)
-            result.number (plain result.rec) main.new queue.new annex.new }
+            (outcome_number result.outcome) (plain result.rec) main.new queue.new annex.new }
     {
-        let a = Record::start(main, queue, annex, power, f, regime);
-        if a.number == 0 {
-            return a;
-        }
-        Answer {
-            number: a.number,
-            rec: self,
-        }
+        let outcome = self.start_in(main, power, f, regime);
+        Answer { outcome, rec: self }
     }
-}
 
-fn all_zero() -> Record
-    ensures { plain result ≡ all_zero }
-{
-    Record {
-        k: 0,
-        start: 0,
-        f: 0,
-        regime: 0,
-        used: 0,
-        queued: 0,
-        dir: no_places(),
+    pub fn start(
+        main: &mut [u32],
+        queue: &mut [u32],
+        annex: &mut [u32],
+        power: u32,
+        f: u32,
+        regime: u32,
+    ) -> Answer
+        ensures { Starts power f regime main.old queue.old annex.old
+            (outcome_number result.outcome) (plain result.rec) main.new queue.new annex.new }
+    {
+        Record::default().restart(main, queue, annex, power, f, regime)
     }
 }

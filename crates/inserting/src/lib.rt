@@ -30,9 +30,9 @@ fn shove(ws: &mut [u32], c: usize, from: usize, e: u32)
         return;
     }
     let mut hand = e;
-    let mut k = from;
     let mut i = walks::around(c, from, n);
-    while k < n {
+    // By index: a circle is gone round, and each word goes on to the slot after it.
+    for _k in from..n {
         let w = ws[i];
         ws[i] = moved(hand, w);
         if w == 0 {
@@ -40,7 +40,6 @@ fn shove(ws: &mut [u32], c: usize, from: usize, e: u32)
         }
         hand = stripped(w);
         i = walks::after(i, n);
-        k = k + 1;
     }
 }
 
@@ -58,7 +57,8 @@ fn marked(w: u32) -> u32
     w / 2 * 2 + 1
 }
 
-// x goes into the run of c, k slots on from c, behind u entries of the run: o is 1 where the run has an entry, or else 0.
+// x goes into the run of c, k slots on from c, behind u entries of the run: o is 1 where the run has an entry, or else 0,
+// a number as the layout's `insert_at` takes it.
 pub fn put(ws: &mut [u32], c: usize, k: usize, u: usize, o: u32, x: u32)
     requires { (c < length ws.old) × (length ws.old ≤ 1048576) × (k < length ws.old) × (x < 536870912) }
     ensures { turn c ws.new ≡ insert_at u o k x (turn c ws.old) }
@@ -66,26 +66,20 @@ pub fn put(ws: &mut [u32], c: usize, k: usize, u: usize, o: u32, x: u32)
     let w = ws[c];
     if k == 0 {
         ws[c] = x * 8 + 1;
-        if w == 0 {
-            return;
+        if w != 0 {
+            shove(ws, c, 1, later(w));
         }
-        let e = later(w);
-        shove(ws, c, 1, e);
         return;
     }
     ws[c] = marked(w);
-    if u == 0 {
-        if o == 0 {
-            shove(ws, c, k, x * 8);
-            return;
-        }
-        let n = ws.len();
-        let i = walks::around(c, k, n);
+    if u > 0 {
+        shove(ws, c, k, x * 8 + 2);
+    } else if o == 0 {
+        shove(ws, c, k, x * 8);
+    } else {
+        let i = walks::around(c, k, ws.len());
         let v = ws[i];
         ws[i] = moved(x * 8, v);
-        let e = later(v);
-        shove(ws, c, k + 1, e);
-        return;
+        shove(ws, c, k + 1, later(v));
     }
-    shove(ws, c, k, x * 8 + 2);
 }

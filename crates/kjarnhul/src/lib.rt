@@ -1,9 +1,10 @@
 #![tactic(auto)]
 
-// Every exported function: Query on bytes for the front page, and the calls on a record that the host lends and that is updated in place.
+// Every exported function: Query on bytes for the front page, and the calls on a record that the host lends and that is updated in place. C takes numbers, so each
+// outcome becomes one here, and it lends main, queue and annex one by one.
 ghost use Rattle.std.specs.Prelude.{◌≡◌};
 ghost use Rattle.rules.specs.Quick.{query};
-ghost use Rattle.rules.specs.Lookups.{bytes_number, query_bytes};
+ghost use Rattle.rules.specs.Lookups.{query_bytes};
 ghost use Rattle.filter.specs.Plain.{plain};
 ghost use Rattle.filter.specs.Promises.{Leaves, Inserts, Deletes, Rejuvenates, Audits, Settles, Doubles};
 ghost use Rattle.filter.specs.Restart.{restart};
@@ -11,34 +12,11 @@ ghost use Rattle.filter.specs.Widths.{width_asked};
 
 use filter::Record;
 
-// 2, 3, or 0 where neither is given.
-fn bytes_number(k: u32, w: u32, bytes: usize) -> u32
-    ensures { result ≡ bytes_number k w bytes }
-{
-    if ((3 <= k) & (k <= 20)) & ((4 <= w) & (w <= 26)) {
-        let slots = slots::pow2(k) as usize;
-        if bytes == 4 * slots {
-            return 0;
-        }
-        return 3;
-    }
-    2
-}
-
 #[unsafe(no_mangle)]
 pub extern "C" fn kj_query_bytes(k: u32, w: u32, hash: u64, main: &[u8]) -> u32
     ensures { result ≡ query_bytes k w main.now hash }
 {
-    let n = bytes_number(k, w, main.len());
-    if n != 0 {
-        return n;
-    }
-    let c = slots::canonical(hash, k) as usize;
-    let m = lookup_bytes::first_match_bytes(main, c, w, k, hash);
-    if m.found {
-        return 1;
-    }
-    0
+    filter::answer_number(thin::query_bytes(k, w, hash, main))
 }
 
 // THE LENT RECORD. Each function is that of crate `thin`, under its name for C.
@@ -57,7 +35,7 @@ pub extern "C" fn kj_start(
         (restart (plain r.old) power f regime main.old queue.old annex.old)
         result (plain r.new) main.new queue.new annex.new }
 {
-    thin::start(r, main, queue, annex, power, f, regime)
+    filter::outcome_number(thin::start(r, main, queue, annex, power, f, regime))
 }
 
 // What kj_query_bytes takes besides k.
@@ -65,14 +43,14 @@ pub extern "C" fn kj_start(
 pub extern "C" fn kj_width(r: &Record) -> u32
     ensures { result ≡ width_asked (plain r.now) }
 {
-    thin::width(r)
+    thin::width(r).unwrap_or(0)
 }
 
 #[unsafe(no_mangle)]
 pub extern "C" fn kj_query(r: &Record, main: &[u32], queue: &[u32], annex: &[u32], hash: u64) -> u32
     ensures { result ≡ query (plain r.now) main.now queue.now annex.now hash }
 {
-    thin::query(r, main, queue, annex, hash)
+    filter::answer_number(thin::query(r, main, queue, annex, hash))
 }
 
 #[unsafe(no_mangle)]
@@ -86,7 +64,7 @@ pub extern "C" fn kj_insert(
     ensures { Inserts (plain r.old) main.old queue.old annex.old hash
         result (plain r.new) main.new queue.new annex.new }
 {
-    thin::insert(r, main, queue, annex, hash)
+    filter::outcome_number(thin::insert(r, main, queue, annex, hash))
 }
 
 #[unsafe(no_mangle)]
@@ -100,7 +78,7 @@ pub extern "C" fn kj_delete(
     ensures { Deletes (plain r.old) main.old queue.old annex.old hash
         result (plain r.new) main.new queue.new annex.new }
 {
-    thin::delete(r, main, queue, annex, hash)
+    filter::outcome_number(thin::delete(r, main, queue, annex, hash))
 }
 
 #[unsafe(no_mangle)]
@@ -114,7 +92,7 @@ pub extern "C" fn kj_rejuvenate(
     ensures { Rejuvenates (plain r.old) main.old queue.old annex.old hash
         result (plain r.new) main.new queue.new annex.new }
 {
-    thin::rejuvenate(r, main, queue, annex, hash)
+    filter::outcome_number(thin::rejuvenate(r, main, queue, annex, hash))
 }
 
 #[unsafe(no_mangle)]
@@ -127,7 +105,7 @@ pub extern "C" fn kj_audit(
     ensures { Audits (plain r.old) main.old queue.old annex.old
         result (plain r.new) main.new queue.new annex.new }
 {
-    thin::audit(r, main, queue, annex)
+    filter::outcome_number(thin::audit(r, main, queue, annex))
 }
 
 #[unsafe(no_mangle)]
@@ -140,7 +118,7 @@ pub extern "C" fn kj_settle(
     ensures { Settles (plain r.old) main.old queue.old annex.old
         result (plain r.new) main.new queue.new annex.new }
 {
-    thin::settle(r, main, queue, annex)
+    filter::outcome_number(thin::settle(r, main, queue, annex))
 }
 
 #[unsafe(no_mangle)]
@@ -154,5 +132,5 @@ pub extern "C" fn kj_double(
     ensures { Doubles (plain r.old) main.old queue.old annex.old second.old
         result (plain r.new) main.new queue.new annex.new second.new }
 {
-    thin::double(r, main, queue, annex, second)
+    filter::outcome_number(thin::double(r, main, queue, annex, second))
 }

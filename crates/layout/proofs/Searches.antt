@@ -5,13 +5,12 @@ use mathlib.Core.List.{List, [], ◌∷◌, ◌++◌}
 use Prim.Native.Nat.{ℕ, zero, suc, ◌+◌, ◌-◌, ◌≤◌, ◌<◌}
 use native.Mathlib.Omega.{arith}
 use native.Mathlib.Decide.{dec_le, ℕ_discrete}
-use lib.Dec.{ltb, leb, eqb}
+use lib.Dec.{ltb, leb}
 use borrow.Author.Tests.{lt-leb, le-leb, ltb-true, ltb-false}
 use lib.ListN.{length, take, drop, get_or}
 use lib.Seq.{drop-cons}
 use Rattle.layout.specs.Reading.{index}
-use Rattle.lists.specs.Lists.{bit}
-use Rattle.lists.specs.Runs.{add, erase, has, count}
+use Rattle.lists.specs.Runs.{add, erase, has}
 use Rattle.layout.proofs.Rises.{Above, Rising}
 use Rattle.lists.proofs.RunLaws.{add-here, add-next, erase-here, erase-next, has_here, has-next}
 
@@ -71,39 +70,6 @@ index-le f (y ∷ ys) = go (f y) (index-le f ys)
     go : (b : Bool) → index f ys ≤ length ys → cond b 0 (suc (index f ys)) ≤ suc (length ys)
     go true h = omega arith
     go false h = omega arith
-
--- ---- counting
-
-pub record Counting (x : ℕ) (run : List ℕ) (t m : ℕ) : Type 0 where
-  pub within : t ≤ length run
-  pub rest : count x run ≡ m + count x (drop t run)
-  pub few : m ≤ t
-
-pub counting-start : (x : ℕ) (run : List ℕ) → Counting x run 0 0
-counting-start x run = record { within = omega arith; rest = omega arith; few = omega arith }
-
-module _ (x : ℕ) (run : List ℕ) (t m : ℕ) (s : Counting x run t m) where
-  pub counting-end : length run ≤ t → m ≡ count x run
-  unfolding count
-  counting-end h = sym (s.rest ∙ ap (λ (d : List ℕ). m + count x d) (lib.ListN.drop_of_length-le run {i = t} h) ∙ (omega arith))
-
-  module _ (h : t < length run) where
-    cut : count x run ≡ m + (bit (eqb x (get_or run t 0)) + count x (drop (suc t) run))
-    unfolding count
-    cut = s.rest ∙ ap (λ (d : List ℕ). m + count x d) (drop-cons run t 0 h)
-
-    next : count x (drop (suc t) run) ≡ count x (drop (t + 1) run)
-    next = let e : suc t ≡ t + 1 = omega arith in ap (λ (j : ℕ). count x (drop j run)) e
-
-    pub counting-one : eqb x (get_or run t 0) ≡ true → Counting x run (t + 1) (m + 1)
-    counting-one e =
-        let few = s.few in
-        record { within = omega arith; rest = omega (arith, cut, next, ap bit e); few = omega arith }
-
-    pub counting-on : eqb x (get_or run t 0) ≡ false → Counting x run (t + 1) m
-    counting-on e =
-        let few = s.few in
-        record { within = omega arith; rest = omega (arith, cut, next, ap bit e); few = omega arith }
 
 -- ---- adding and erasing by the place that a search finds
 

@@ -1,5 +1,5 @@
--- The walk over the entries of a run, which carries the slot and the payload from turn to turn: the slot is that of the linear place, and the payload that of the entry
--- there.
+-- The walk over the entries of a run, which carries the slot and the payload from turn to turn: the slot is that of the linear place, and the payload
+-- that of the entry there.
 use mathlib.Core.Path.{◌≡◌, refl, sym, ap, ◌∙◌, subst}
 use mathlib.Core.Bool.{Bool, true, false}
 use mathlib.Core.List.{List}
@@ -7,6 +7,7 @@ use Prim.Native.Nat.{ℕ, ◌+◌, ◌-◌, ◌/◌, ◌%◌, ◌≤◌, ◌<◌
 use native.Mathlib.Omega.{arith}
 use native.Mathlib.Decide.{dec_lt}
 use lib.ListN.{length, get_or}
+use Rattle.std.proofs.Common.{Some, None}
 use Rattle.layout.specs.Moves.{wrap}
 use Rattle.layout.specs.Reading.{run_from}
 use Rattle.layout.proofs.Searches.{Seeking, seeking-start, seeking-on, true-lt, false-le}
@@ -43,14 +44,14 @@ module _ (f : ℕ → Bool) (ws : List ℕ) (b from n : ℕ) (hb : b < n) (hn : 
       }
 
   module _ (t i p : ℕ) (s : Scanning f ws b from n t i p) where
-    pub scan-end : n ≤ t → First f run false 0
+    pub scan-end : n ≤ t → First f run None
     scan-end h =
         let begun = s.begun in
         first-none f run (t - from) s.past (omega (arith, run_length ws b from))
 
     module _ (h : t < n) (m : Bool) (em : m ≡ f p) where
-      pub scan-found : m ≡ true → First f run true p
-      scan-found e = first_found f run (t - from) s.past (s.there h) p (s.payload h) m em e
+      pub scan-found : m ≡ true → First f run (Some p)
+      scan-found e = first_found f run (t - from) s.past (s.there h) p (s.payload h) (sym em ∙ e)
 
       module _ (e : m ≡ false) (j v : ℕ) (ej : j ≡ wrap n i 1) (ev : v ≡ get_or ws j 0) where
         next : t + 1 - from ≡ t - from + 1
@@ -68,17 +69,21 @@ module _ (f : ℕ → Bool) (ws : List ℕ) (b from n : ℕ) (hb : b < n) (hn : 
         later : t + 1 - from ≡ 0 → ⊥
         later z = let begun = s.begun in omega arith
 
-        pub scan-stop : v / 2 % 2 ≡ 0 → First f run false 0
+        pub scan-stop : v / 2 % 2 ≡ 0 → First f run None
         scan-stop z = first-none f run (t + 1 - from) passed-one (go (dec_lt (t + 1) n))
           where
             go : Dec (t + 1 < n) → length run ≤ t + 1 - from
             go (yes g) =
-                let a = step-stop ws b from (t + 1 - from) n hb hn passed-one.within j (omega (arith, place)) (at g) later (ap (λ (w : ℕ). w / 2 % 2) (sym ev) ∙ z) in
+                let a =
+                step-stop ws b from (t + 1 - from) n hb hn passed-one.within j (omega (arith, place)) (at g) later
+                (ap (λ (w : ℕ). w / 2 % 2) (sym ev) ∙ z) in
                 false-le (t + 1 - from) (length run) false a.0 refl
             go (no g) = omega (arith, run_length ws b from)
 
         answer : (v / 2 % 2 ≡ 0 → ⊥) → t + 1 < n → Answer run (t + 1 - from) true (get_or ws j 0 / 8)
-        answer z g = step-on ws b from (t + 1 - from) n hb hn passed-one.within j (omega (arith, place)) (at g) later (λ y. z (ap (λ (w : ℕ). w / 2 % 2) ev ∙ y))
+        answer z g =
+            step-on ws b from (t + 1 - from) n hb hn passed-one.within j (omega (arith, place)) (at g) later
+            (λ y. z (ap (λ (w : ℕ). w / 2 % 2) ev ∙ y))
 
         pub scan-on : (v / 2 % 2 ≡ 0 → ⊥) → Scanning f ws b from n (t + 1) j (v / 8)
         scan-on z =

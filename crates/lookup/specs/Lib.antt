@@ -1,2 +1,3 @@
 -- What a search in the run of an address finds.
 pub mod Spots
+pub mod Rest

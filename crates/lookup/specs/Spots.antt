@@ -1,13 +1,12 @@
 -- Document 01, "Slots": "entries of one canonical slot form a run in rising payload order, so longer fingerprints come first". What a search in the run of an
 -- address finds: the first match is the longest.
-use Rattle.std.specs.Prelude.{◌≡◌, Bool, cond, List, ℕ, suc, ◌+◌, ◌-◌, ◌≤◌, ◌<◌, leb, ltb, length, get_or}
+use Rattle.std.specs.Prelude.{◌≡◌, Bool, cond, List, ℕ, suc, ◌+◌, ◌-◌, ◌≤◌, ◌<◌, leb, ltb, length, get_or, Option, slice_get}
 use Rattle.layout.specs.Decode.{run_at, place_of}
 use Rattle.layout.specs.Reading.{index}
 
--- the first payload for which the test is true, if there is one, or else 0
-pub record First (f : ℕ → Bool) (run : List ℕ) (found : Bool) (payload : ℕ) : Type 0 where
-  pub any : found ≡ ltb (index f run) (length run)
-  pub which : payload ≡ get_or run (index f run) 0
+-- the first payload for which the test is true, if there is one
+abbrev pub First : (ℕ → Bool) → List ℕ → Option ℕ → Type 0
+First f run payload = payload ≡ slice_get run (index f run)
 
 -- x is found: `slot` slots on from c, behind `rank` others of the run; `rest` is 1 where others come behind it, or else 0
 pub record Spotted (ws : List ℕ) (c x slot rank rest : ℕ) : Type 0 where

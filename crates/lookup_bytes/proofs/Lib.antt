@@ -1,2 +1,2 @@
--- The laws of the walks over bytes.
-pub mod Bytes
+-- The words of a list of bytes.
+pub mod Words

@@ -1,127 +1,107 @@
-// What a call leaves, as lines of decimal numbers on a writer: words are printed by their digest.
-ghost use Rattle.std.specs.Prelude.{◌<◌};
+// What a call leaves, as a line of decimal numbers: words are printed by their digest.
+ghost use Rattle.std.specs.Prelude.{◌≡◌, ◌+◌, ◌*◌, ◌%◌, ◌^◌};
 
 use directory::Place;
 use filter::Record;
-use std::io::{self, Write};
+use std::fmt;
+
+/// A filter, as the lines show it: its record and the words lent.
+#[derive(Clone, Copy)]
+pub struct State<'a> {
+    pub record: &'a Record,
+    pub main: &'a [u32],
+    pub queue: &'a [u32],
+    pub annex: &'a [u32],
+}
 
 // One word more in a digest: times 16777619 plus the word plus 1, modulo 2^32.
-fn digested(d: u64, word: u32) -> u64
-    requires { d < 4294967296 }
-    ensures { result < 4294967296 }
+fn digested(digest: u32, word: u32) -> u32
+    ensures { result ≡ (digest * 16777619 + word + 1) % 2 ^ 32 }
 {
-    (d * 16777619 + word as u64 + 1) % 4294967296
+    digest
+        .wrapping_mul(16777619)
+        .wrapping_add(word)
+        .wrapping_add(1)
 }
 
-fn digest(words: &[u32]) -> u64 {
-    let mut d: u64 = 0;
-    let mut i: usize = 0;
-    while i < words.len() {
-        d = digested(d, words[i]);
-        i += 1;
+fn digest(words: &[u32]) -> u32 {
+    words.iter().copied().fold(0, digested)
+}
+
+fn digest_of_places(places: &[Place; 15]) -> u32 {
+    places.iter().fold(0, |digest, place| {
+        digested(digested(digested(digest, place.b), place.s), place.count)
+    })
+}
+
+// The six numbers of a record.
+#[derive(Clone, Copy)]
+struct Numbers<'a>(&'a Record);
+
+impl fmt::Display for Numbers<'_> {
+    fn fmt<W: fmt::Write>(&self, f: &mut fmt::Formatter<W>) -> fmt::Result {
+        let record = self.0;
+        write!(f, "{} {} {}", record.k, record.start, record.f)?;
+        write!(f, " {} {} {}", record.regime, record.used, record.queued)
     }
-    d
 }
 
-fn digest_places(dir: [Place; 15]) -> u64 {
-    let mut d: u64 = 0;
-    let mut i: usize = 0;
-    while i < 15 {
-        let p = dir[i];
-        d = digested(digested(digested(d, p.b), p.s), p.count);
-        i += 1;
+/// The record, and the digests of its directory and of the words lent.
+#[derive(Clone, Copy)]
+pub struct Short<'a>(pub State<'a>);
+
+impl fmt::Display for Short<'_> {
+    fn fmt<W: fmt::Write>(&self, f: &mut fmt::Formatter<W>) -> fmt::Result {
+        let State {
+            record,
+            main,
+            queue,
+            annex,
+        } = self.0;
+        write!(f, "{} {}", Numbers(record), digest_of_places(&record.dir))?;
+        write!(f, " {} {} {}", digest(main), digest(queue), digest(annex))
     }
-    d
 }
 
-pub fn number<W: Write>(out: &mut W, n: u64) -> io::Result<()> {
-    write!(out, "{n}")
-}
+/// How many words a part has, and their digest.
+#[derive(Clone, Copy)]
+pub struct Part<'a>(pub &'a [u32]);
 
-// A number that is not the first of its line.
-fn next<W: Write>(out: &mut W, n: u64) -> io::Result<()> {
-    out.write_all(b" ")?;
-    number(out, n)
-}
-
-fn word<W: Write>(out: &mut W, w: u32) -> io::Result<()> {
-    next(out, w as u64)
-}
-
-pub fn line_end<W: Write>(out: &mut W) -> io::Result<()> {
-    out.write_all(b"\n")
-}
-
-fn record<W: Write>(out: &mut W, rec: Record) -> io::Result<()> {
-    number(out, rec.k as u64)?;
-    word(out, rec.start)?;
-    word(out, rec.f)?;
-    word(out, rec.regime)?;
-    word(out, rec.used)?;
-    word(out, rec.queued)
-}
-
-// The line of a call: its number, the record and the digests of its directory and of the words lent.
-pub fn call<W: Write>(
-    out: &mut W,
-    answer: u32,
-    rec: Record,
-    main: &[u32],
-    queue: &[u32],
-    annex: &[u32],
-) -> io::Result<()> {
-    number(out, answer as u64)?;
-    out.write_all(b" ")?;
-    record(out, rec)?;
-    let dir = rec.dir;
-    next(out, digest_places(dir))?;
-    next(out, digest(main))?;
-    next(out, digest(queue))?;
-    next(out, digest(annex))?;
-    line_end(out)
-}
-
-// The line of a part lookup: how many words, and their digest.
-pub fn part<W: Write>(out: &mut W, words: &[u32]) -> io::Result<()> {
-    number(out, words.len() as u64)?;
-    next(out, digest(words))?;
-    line_end(out)
-}
-
-fn places<W: Write>(out: &mut W, dir: [Place; 15]) -> io::Result<()> {
-    let mut i: usize = 0;
-    while i < 15 {
-        let p = dir[i];
-        word(out, p.b)?;
-        word(out, p.s)?;
-        word(out, p.count)?;
-        i += 1;
+impl fmt::Display for Part<'_> {
+    fn fmt<W: fmt::Write>(&self, f: &mut fmt::Formatter<W>) -> fmt::Result {
+        write!(f, "{} {}", self.0.len(), digest(self.0))
     }
-    Ok(())
 }
 
-fn all<W: Write>(out: &mut W, words: &[u32]) -> io::Result<()> {
-    let mut i: usize = 0;
-    while i < words.len() {
-        word(out, words[i])?;
-        i += 1;
+// Words in full, each behind a space.
+#[derive(Clone, Copy)]
+struct Words<'a>(&'a [u32]);
+
+impl fmt::Display for Words<'_> {
+    fn fmt<W: fmt::Write>(&self, f: &mut fmt::Formatter<W>) -> fmt::Result {
+        for word in self.0 {
+            write!(f, " {word}")?;
+        }
+        Ok(())
     }
-    Ok(())
 }
 
-// Everything in full, in one line.
-pub fn whole<W: Write>(
-    out: &mut W,
-    rec: Record,
-    main: &[u32],
-    queue: &[u32],
-    annex: &[u32],
-) -> io::Result<()> {
-    record(out, rec)?;
-    let dir = rec.dir;
-    places(out, dir)?;
-    all(out, main)?;
-    all(out, queue)?;
-    all(out, annex)?;
-    line_end(out)
+/// Everything in full.
+#[derive(Clone, Copy)]
+pub struct Whole<'a>(pub State<'a>);
+
+impl fmt::Display for Whole<'_> {
+    fn fmt<W: fmt::Write>(&self, f: &mut fmt::Formatter<W>) -> fmt::Result {
+        let State {
+            record,
+            main,
+            queue,
+            annex,
+        } = self.0;
+        write!(f, "{}", Numbers(record))?;
+        for place in &record.dir {
+            write!(f, "{}", Words(&[place.b, place.s, place.count]))?;
+        }
+        write!(f, "{}{}{}", Words(main), Words(queue), Words(annex))
+    }
 }

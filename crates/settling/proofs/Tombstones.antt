@@ -9,7 +9,7 @@ use native.Mathlib.Numerals.{add-one}
 use native.Mathlib.Decide.{ℕ_discrete}
 use lib.Dec.{T, ltb, eqb, ltb→lt}
 use lib.ListN.{length, get_or, take, length-map, length-set}
-use lib.Seq.{take-suc, get_or-set_same, get_or-set_other, ext_get_or, get_or-take, length-take-le}
+use lib.Seq.{take-suc, take_all, get_or-set_same, get_or-set_other, ext_get_or}
 use borrow.Author.Tests.{eq-eqb, ne_eqb}
 use Rattle.lists.specs.Lists.{every}
 use Rattle.lists.specs.Runs.{Runs, rising, erase, erase_all, count, at}
@@ -102,7 +102,8 @@ module _ (w : ℕ) where
           ∙ count_erase_self t (get_or runs (q / 2) [])
           ∙ ap (λ (y : ℕ). count t (get_or runs y []) - 1) (sym f)
           ∙ omega (arith, n a m, is-yes (a * 2) q (omega arith)))
-      go (no f) = ap (count t) (get_or-set_other runs (q / 2) a (erase t (get_or runs (q / 2) [])) [] f) ∙ n a m ∙ omega (arith, is-no (a * 2) q (λ s. f (omega arith)))
+      go (no f) =
+          ap (count t) (get_or-set_other runs (q / 2) a (erase t (get_or runs (q / 2) [])) [] f) ∙ n a m ∙ omega (arith, is-no (a * 2) q (λ s. f (omega arith)))
 
   named-odd : (q : ℕ) (ws : List ℕ) (runs : Runs) → (q % 2 ≡ 0 → ⊥) → Named (q ∷ ws) runs → Named ws runs
   unfolding count
@@ -114,7 +115,8 @@ module _ (w : ℕ) where
       ext_get_or [] runs (no_tombstones w runs) (sym (none-length runs)) (λ a l. sym (erase_all-zero t (get_or runs a []) (n a l)) ∙ sym (none-at runs a))
   all-taken (q ∷ ws) runs h n = go (all-taken ws) (ℕ_discrete (q % 2) 0)
     where
-      go : ((rs : Runs) → All (λ p. p / 2 < length rs) ws → Named ws rs → take_tombstones w ws rs ≡ no_tombstones w rs) → Dec (q % 2 ≡ 0) → take_tombstones w ws (taken q runs) ≡ no_tombstones w runs
+      go : ((rs : Runs) → All (λ p. p / 2 < length rs) ws → Named ws rs → take_tombstones w ws rs ≡ no_tombstones w rs) → Dec (q % 2 ≡ 0)
+          → take_tombstones w ws (taken q runs) ≡ no_tombstones w runs
       go ih (yes e) =
           let l : length (at (q / 2) (erase t) runs) ≡ length runs = length-set runs (q / 2) (erase t (get_or runs (q / 2) [])) in
           ap (λ (y : Bool). take_tombstones w ws (cond y (at (q / 2) (erase t) runs) runs)) (eq-eqb (q % 2) 0 e)
@@ -150,7 +152,8 @@ module _ (w : ℕ) where
     unfolding take_tombstones
     tombs-start = lost-none (take_tombstones w []) main₀ (λ runs. refl)
 
-    module _ (main : List ℕ) (j gone q : ℕ) (h : j < length queue) (eq : q ≡ get_or queue j 0) (v : Lost (take_tombstones w (take j queue)) main₀ main gone) where
+    module _ (main : List ℕ) (j gone q : ℕ) (h : j < length queue) (eq : q ≡ get_or queue j 0)
+        (v : Lost (take_tombstones w (take j queue)) main₀ main gone) where
       more : (runs : Runs) → take_tombstones w (take (j + 1) queue) runs ≡ taken q (take_tombstones w (take j queue) runs)
       more runs =
           let e : take (j + 1) queue ≡ take j queue ++ q ∷ [] = rw (add-one, take-suc queue j 0) (ap (λ (y : ℕ). take j queue ++ y ∷ []) (sym eq)) in
@@ -159,52 +162,53 @@ module _ (w : ℕ) where
       pub tombs-odd : (q % 2 ≡ 0 → ⊥) → Lost (take_tombstones w (take (j + 1) queue)) main₀ main gone
       tombs-odd e =
           lost_as (take_tombstones w (take j queue)) (take_tombstones w (take (j + 1) queue)) main₀ main gone
-          (λ runs l. sym (more runs ∙ ap (λ (y : Bool). cond y (at (q / 2) (erase t) (take_tombstones w (take j queue) runs)) (take_tombstones w (take j queue) runs)) (ne_eqb (q % 2) 0 e))) v
+          (λ runs l. sym (more runs
+          ∙ ap (λ (y : Bool). cond y (at (q / 2) (erase t) (take_tombstones w (take j queue) runs)) (take_tombstones w (take j queue) runs))
+          (ne_eqb (q % 2) 0 e)))
+          v
 
-      pub tombs-even : q % 2 ≡ 0 → (x n : ℕ) → x ≡ t → (main' : List ℕ) → Lost (at (q / 2) (erase x)) main main' n → Lost (take_tombstones w (take (j + 1) queue)) main₀ main' (gone + n)
+      pub tombs-even : q % 2 ≡ 0 → (x n : ℕ) → x ≡ t → (main' : List ℕ) → Lost (at (q / 2) (erase x)) main main' n
+          → Lost (take_tombstones w (take (j + 1) queue)) main₀ main' (gone + n)
       tombs-even e x n ex main' u =
           let u' : Lost (at (q / 2) (erase t)) main main' n = subst (λ (y : ℕ). Lost (at (q / 2) (erase y)) main main' n) ex u in
           lost_as (λ runs. at (q / 2) (erase t) (take_tombstones w (take j queue) runs)) (take_tombstones w (take (j + 1) queue)) main₀ main' (gone + n)
-          (λ runs l. sym (more runs ∙ ap (λ (y : Bool). cond y (at (q / 2) (erase t) (take_tombstones w (take j queue) runs)) (take_tombstones w (take j queue) runs)) (eq-eqb (q % 2) 0 e)))
+          (λ runs l. sym (more runs
+          ∙ ap (λ (y : Bool). cond y (at (q / 2) (erase t) (take_tombstones w (take j queue) runs)) (take_tombstones w (take j queue) runs))
+          (eq-eqb (q % 2) 0 e)))
           (lost-then (take_tombstones w (take j queue)) (at (q / 2) (erase t)) main₀ main main' gone n (take-keeps (take j queue)) v u')
 
 -- the address that word j names is within the table
-pub names-inside : (queue : List ℕ) (n m j : ℕ) → n ≤ length queue → T (every (λ q. ltb (q / 2) m) (take n queue)) → j < n → get_or queue j 0 / 2 < m
-names-inside queue n m j l t h =
-    subst (λ (q : ℕ). q / 2 < m) (get_or-take n queue j 0 h)
-    (ltb→lt (get_or (take n queue) j 0 / 2) m (every_get (λ q. ltb (q / 2) m) (take n queue) 0 t j (omega (arith, length-take-le n queue l))))
+pub names-inside : (queue : List ℕ) (m j : ℕ) → T (every (λ q. ltb (q / 2) m) queue) → j < length queue → get_or queue j 0 / 2 < m
+names-inside queue m j t h = ltb→lt (get_or queue j 0 / 2) m (every_get (λ q. ltb (q / 2) m) queue 0 t j h)
 
 -- where the walk over the queue stands: at word j, with `gone` tombstones taken
-pub record Clearing (w n : ℕ) (queue main₀ main : List ℕ) (gone j : ℕ) : Type 0 where
+pub record Clearing (w : ℕ) (queue main₀ main : List ℕ) (gone j : ℕ) : Type 0 where
   pub size : length main ≡ length main₀
-  pub low : j ≤ n
   pub few : gone ≤ j
   pub lost : Lost (take_tombstones w (take j queue)) main₀ main gone
 
-pub clear-start : (w n : ℕ) (queue main₀ : List ℕ) → Clearing w n queue main₀ main₀ 0 0
-clear-start w n queue main₀ = record { size = refl; low = omega arith; few = omega arith; lost = tombs-start w queue main₀ }
+pub clear-start : (w : ℕ) (queue main₀ : List ℕ) → Clearing w queue main₀ main₀ 0 0
+clear-start w queue main₀ = record { size = refl; few = omega arith; lost = tombs-start w queue main₀ }
 
-pub clear-end : (w n : ℕ) (queue main₀ main : List ℕ) (gone j : ℕ) → Clearing w n queue main₀ main gone j → n ≤ j → Lost (take_tombstones w (take n queue)) main₀ main gone
-clear-end w n queue main₀ main gone j v h =
-    let e : j ≡ n = omega (arith, v.low) in
-    subst (λ (i : ℕ). Lost (take_tombstones w (take i queue)) main₀ main gone) e v.lost
+pub clear-end : (w : ℕ) (queue main₀ main : List ℕ) (gone j : ℕ) → Clearing w queue main₀ main gone j → length queue ≤ j
+    → Lost (take_tombstones w queue) main₀ main gone
+clear-end w queue main₀ main gone j v h = subst (λ (l : List ℕ). Lost (take_tombstones w l) main₀ main gone) (take_all j queue h) v.lost
 
-module _ (w n : ℕ) (queue main₀ main : List ℕ) (gone j : ℕ) (v : Clearing w n queue main₀ main gone j) (h : j < n) (l : n ≤ length queue) where
-  pub clear-past : (get_or queue j 0 % 2 ≡ 0 → ⊥) → (main' : List ℕ) (gone' : ℕ) → main' ≡ main → gone' ≡ gone → Clearing w n queue main₀ main' gone' (j + 1)
+module _ (w : ℕ) (queue main₀ main : List ℕ) (gone j : ℕ) (v : Clearing w queue main₀ main gone j) (h : j < length queue) where
+  pub clear-past : (get_or queue j 0 % 2 ≡ 0 → ⊥) → (main' : List ℕ) (gone' : ℕ) → main' ≡ main → gone' ≡ gone → Clearing w queue main₀ main' gone' (j + 1)
   clear-past s main' gone' e f =
       record {
         size = ap length e ∙ v.size;
-        low = omega arith;
         few = omega (arith, v.few);
-        lost = rw (e, f) (tombs-odd w queue main₀ main j gone (get_or queue j 0) (omega arith) refl v.lost s);
+        lost = rw (e, f) (tombs-odd w queue main₀ main j gone (get_or queue j 0) h refl v.lost s);
       }
 
-  pub clear-on : get_or queue j 0 % 2 ≡ 0 → (x m : ℕ) → x ≡ tombstone w → m ≤ 1 → (next : List ℕ) → length next ≡ length main → Lost (at (get_or queue j 0 / 2) (erase x)) main next m
-      → (main' : List ℕ) (gone' : ℕ) → main' ≡ next → gone' ≡ gone + m → Clearing w n queue main₀ main' gone' (j + 1)
+  pub clear-on : get_or queue j 0 % 2 ≡ 0 → (x m : ℕ) → x ≡ tombstone w → m ≤ 1 → (next : List ℕ) → length next ≡ length main
+      → Lost (at (get_or queue j 0 / 2) (erase x)) main next m
+      → (main' : List ℕ) (gone' : ℕ) → main' ≡ next → gone' ≡ gone + m → Clearing w queue main₀ main' gone' (j + 1)
   clear-on s x m ex k next long u main' gone' e f =
       record {
         size = ap length e ∙ long ∙ v.size;
-        low = omega arith;
         few = omega (arith, v.few);
-        lost = rw (e, f) (tombs-even w queue main₀ main j gone (get_or queue j 0) (omega arith) refl v.lost s x m ex next u);
+        lost = rw (e, f) (tombs-even w queue main₀ main j gone (get_or queue j 0) h refl v.lost s x m ex next u);
       }

@@ -1,11 +1,11 @@
--- From the numbers of a record for which Settle is not refused to what Settle leaves: tombstones stay while voids go, so that at the end one for each even queue
--- word is all of them.
+-- From the numbers of a record for which Settle is not refused to what Settle leaves: tombstones stay while voids go, so that at the end one for each even
+-- queue word is all of them.
 use mathlib.Core.Path.{◌≡◌, refl, sym, ap, ap₂, ◌∙◌, subst}
 use mathlib.Core.List.{List, [], ◌∷◌, ◌++◌, map}
 use Prim.Native.Nat.{ℕ, zero, suc, ◌+◌, ◌-◌, ◌*◌, ◌/◌, ◌^◌, ◌≤◌, ◌<◌}
 use native.Mathlib.Omega.{arith}
 use lib.Dec.{T, ltb, lt→ltb}
-use lib.ListN.{length, get_or, take, drop}
+use lib.ListN.{length, get_or, take, drop, length-take}
 use Rattle.lists.specs.Lists.{every}
 use Rattle.lists.specs.Runs.{Runs, count, total}
 use Rattle.lists.proofs.Tests.{and_both}
@@ -130,7 +130,8 @@ module _ {k w used queued : ℕ} {places : List Place} {main queue annex : List 
   abbrev pub after : Held
   after = settle_all w words (held_in main annex places)
 
-  module _ (left : ℕ) (main₁ annex₁ : List ℕ) (dir : List Place) (hold : Holding after (drop (words_taken (places_in_use places)) annex) k w left main₁ annex₁ dir) where
+  module _ (left : ℕ) (main₁ annex₁ : List ℕ) (dir : List Place)
+      (hold : Holding after (drop (words_taken (places_in_use places)) annex) k w left main₁ annex₁ dir) where
     t : Holds (main_entry w k) k left main₁ (decode main₁)
     t = table k w left main₁ annex₁ dir hold.right
 
@@ -140,17 +141,17 @@ module _ {k w used queued : ℕ} {places : List Place} {main queue annex : List 
     inside : All (λ q. q / 2 < length (decode main₁)) words
     inside = subst (λ (x : ℕ). All (λ q. q / 2 < x) words) (sym t.size) names
 
-    pub tombstones-ready : (w ≤ 26) × (1 < length main₁) × (length main₁ ≤ 1048576) × (queued ≤ 1048576) × (queued ≤ length queue)
+    pub tombstones-ready : (w ≤ 26) × (1 < length main₁) × (length main₁ ≤ 1048576) × (length words ≤ 1048576)
         × T (every (λ q. ltb (q / 2) (length main₁)) words)
     tombstones-ready =
         let l = hold.right.main_long in (
           hold.right.w_26,
           omega (arith, l, size-8 k hold.right.k_3),
           omega (arith, l, size-20 k hold.right.k_20),
-          queue-small,
-          queue_long,
+          omega (arith, queue-small, length-take queued queue),
           all-every (λ q. ltb (q / 2) (length main₁)) words
-              (subst (λ (x : ℕ). All (λ q. T (ltb (q / 2) x)) words) (sym l) (all_map (λ q. q / 2 < 2 ^ k) (λ q. T (ltb (q / 2) (2 ^ k))) (λ q h. lt→ltb (q / 2) (2 ^ k) h) words names)),
+              (subst (λ (x : ℕ). All (λ q. T (ltb (q / 2) x)) words) (sym l)
+              (all_map (λ q. q / 2 < 2 ^ k) (λ q. T (ltb (q / 2) (2 ^ k))) (λ q h. lt→ltb (q / 2) (2 ^ k) h) words names)),
         )
 
     pub zeros-left : T (every zero_place (places_not_in_use dir))
@@ -190,7 +191,9 @@ module _ {k w used queued : ℕ} {places : List Place} {main queue annex : List 
             annex_is = rd.words ∙ ap₂ (λ (x : List Table) (y : List ℕ). table_words x ++ y) tables-are hold.past
                 ∙ ap₂ (λ (y : Held) (d : List Place). table_words y.annex ++ drop (words_taken (places_in_use d)) annex) held (sym m.places_are);
             used_is = here ∙ ap₂ (λ (x : ℕ) (y : Held). total (no_tombstones x y.main)) (sym m.w_is) held;
-            places_are = e ∙ ap (λ (x : List Place). fifteen (trim x)) (sym rd.of ∙ ap (map place_of) tables-are) ∙ ap (λ (y : Held). fifteen (trim (map place_of y.annex))) held;
+            places_are =
+                e ∙ ap (λ (x : List Place). fifteen (trim x)) (sym rd.of ∙ ap (map place_of) tables-are)
+                ∙ ap (λ (y : Held). fifteen (trim (map place_of y.annex))) held;
           }
         where
           here : left - gone ≡ total (no_tombstones w after.main)

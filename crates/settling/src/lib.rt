@@ -1,7 +1,7 @@
 #![tactic(auto)]
 
 // Settle on a right state: the queue words first to last, and then the tombstones.
-ghost use Rattle.std.specs.Prelude.{◌≡◌, ◌/◌, ◌^◌, ◌≤◌, ◌<◌, T, ltb, length, take, drop};
+ghost use Rattle.std.specs.Prelude.{◌≡◌, ◌/◌, ◌^◌, ◌≤◌, ◌<◌, T, ltb, length, drop};
 ghost use Rattle.lists.specs.Lists.{every};
 ghost use Rattle.lists.specs.Runs.{erase, at};
 ghost use Rattle.directory.specs.Places.{places_in_use, words_taken};
@@ -12,19 +12,14 @@ ghost use Rattle.settling.specs.State.{held_in, Right, Holding, Lost, take_tombs
 ghost use Rattle.settling.specs.Ready.{Numbers, Ready, Leaves};
 
 use directory::Place;
-
-#[derive(Clone, Copy)]
-pub struct Settled {
-    pub used: u32,
-    pub places: [Place; 15],
-}
+use places::Left;
 
 // One entry with payload x goes from the run of c, if there is one: how many went.
 fn take_one(main: &mut [u32], c: usize, x: u32) -> u32
     requires { (c < length main.old) × (length main.old ≤ 1048576) × (1 < length main.old) }
     ensures { (result ≤ 1) × Lost (at c (erase x)) main.old main.new result }
 {
-    if table::remove(main, c, x) { 1 } else { 0 }
+    u32::from(table::remove(main, c, x))
 }
 
 // At each address but c with the low b bits of c one void goes, if there is one: how many went. No other address is visited.
@@ -35,13 +30,11 @@ fn take_voids(main: &mut [u32], k: u32, w: u32, c: u32, b: u32) -> u32
     let size = slots::pow2(k);
     let step = slots::pow2(b);
     let void = slots::void_of(w);
-    let mut gone: u32 = 0;
-    let mut d = c % step;
-    while d < size {
+    let mut gone = 0;
+    for d in (c % step..size).step_by(step as usize) {
         if d != c {
             gone += take_one(main, d as usize, void);
         }
-        d += step;
     }
     gone
 }
@@ -55,25 +48,21 @@ fn settle_word(
     c: u32,
     used: u32,
     places: [Place; 15],
-) -> Settled
+) -> Left
     requires { Right k w used main.old annex.old places }
     ensures { Holding (settle_word w c (held_in main.old annex.old places)) (drop (words_taken (places_in_use places)) annex.old)
         k w result.used main.new annex.new result.places }
 {
-    let i = annex::longest_place(annex, places, c);
-    if 15 <= i {
-        return Settled { used, places };
-    }
-    let p = places[i];
-    let gone = take_voids(main, k, w, c, p.b);
-    let left = annex::take_hash(annex, places, i, c);
-    Settled {
-        used: used - gone,
-        places: left,
+    match annex::longest_place(annex, places, c) {
+        Some(i) => Left {
+            used: used - take_voids(main, k, w, c, places[i].b),
+            places: annex::take_hash(annex, places, i, c),
+        },
+        None => Left { used, places },
     }
 }
 
-// The first n queue words, first to last.
+// The queue words, first to last.
 fn settle_words(
     main: &mut [u32],
     queue: &[u32],
@@ -81,50 +70,36 @@ fn settle_words(
     k: u32,
     w: u32,
     used: u32,
-    n: usize,
     places: [Place; 15],
-) -> Settled
-    requires { (n ≤ length queue.now) × Right k w used main.old annex.old places }
-    ensures { Holding (settle_all w (take n queue.now) (held_in main.old annex.old places))
+) -> Left
+    requires { Right k w used main.old annex.old places }
+    ensures { Holding (settle_all w queue.now (held_in main.old annex.old places))
         (drop (words_taken (places_in_use places)) annex.old) k w result.used main.new annex.new result.places }
 {
-    let mut left = used;
-    let mut dir = places;
-    let mut next: usize = 0;
-    while next < n {
-        let c = queue[next] / 2;
-        let s = settle_word(main, annex, k, w, c, left, dir);
-        left = s.used;
-        let ps = s.places;
-        dir = ps;
-        next += 1;
+    let mut settled = Left { used, places };
+    for word in queue {
+        settled = settle_word(main, annex, k, w, word / 2, settled.used, settled.places);
     }
-    Settled {
-        used: left,
-        places: dir,
-    }
+    settled
 }
 
-// One tombstone goes for each even word of the first n queue words: how many went.
-fn take_tombstones(main: &mut [u32], queue: &[u32], w: u32, n: usize) -> u32
-    requires { (w ≤ 26) × (1 < length main.old) × (length main.old ≤ 1048576) × (n ≤ 1048576) × (n ≤ length queue.now)
-        × T (every (λ q. ltb (q / 2) (length main.old)) (take n queue.now)) }
-    ensures { Lost (take_tombstones w (take n queue.now)) main.old main.new result }
+// One tombstone goes for each even queue word: how many went.
+fn take_tombstones(main: &mut [u32], queue: &[u32], w: u32) -> u32
+    requires { (w ≤ 26) × (1 < length main.old) × (length main.old ≤ 1048576) × (length queue.now ≤ 1048576)
+        × T (every (λ q. ltb (q / 2) (length main.old)) queue.now) }
+    ensures { Lost (take_tombstones w queue.now) main.old main.new result }
 {
     let tombstone = slots::tombstone_of(w);
-    let mut gone: u32 = 0;
-    let mut j: usize = 0;
-    while j < n {
-        let q = queue[j];
-        if q % 2 == 0 {
-            let c = (q / 2) as usize;
-            gone += take_one(main, c, tombstone);
+    let mut gone = 0;
+    for word in queue {
+        if word % 2 == 0 {
+            gone += take_one(main, (word / 2) as usize, tombstone);
         }
-        j += 1;
     }
     gone
 }
 
+// The record's numbers one by one, since its type stands in a crate above.
 pub fn settle(
     main: &mut [u32],
     queue: &[u32],
@@ -134,19 +109,16 @@ pub fn settle(
     used: u32,
     queued: usize,
     places: [Place; 15],
-) -> Settled
+) -> Left
     requires { Ready k w used queued places main.old queue.now annex.old }
     ensures { (r : Filter) → Numbers r k w used queued places
         → Leaves (settled r main.old queue.now annex.old (held_after r main.old queue.now annex.old))
         main.new annex.new result.used result.places }
 {
-    let s = settle_words(main, queue, annex, k, w, used, queued, places);
-    let left = s.used;
-    let dir = s.places;
-    let gone = take_tombstones(main, queue, w, queued);
-    let kept = places::trimmed(dir);
-    Settled {
-        used: left - gone,
-        places: kept,
+    let words = &queue[..queued];
+    let settled = settle_words(main, words, annex, k, w, used, places);
+    Left {
+        used: settled.used - take_tombstones(main, words, w),
+        places: places::trimmed(settled.places),
     }
 }

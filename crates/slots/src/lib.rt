@@ -34,22 +34,23 @@ pub fn limit_of(n: u32) -> u32
     pow2(n) - pow2(n - 3)
 }
 
+// The regime is a number, 0 or 1, as it is in the record that C lends.
 pub fn extra_bits(regime: u32, generation: u32) -> u32
     requires { generation < 18 }
     ensures { (result ≡ extra regime generation) × (result ≤ 10) }
 {
     if regime == 0 {
-        return 0;
+        0
+    } else {
+        EXTRA[generation as usize]
     }
-    let x = generation as usize;
-    EXTRA[x]
 }
 
+// The word modulo 8 by ranges, as the document has the eight cases.
 pub fn kind_of(word: u32) -> Kind
     ensures { result ≡ kind_of (word % 8) }
 {
-    let low = word % 8;
-    match low {
+    match word % 8 {
         0 => Kind::Empty,
         1 => Kind::StartAtHome,
         2..=3 => Kind::NeverAllowed,
@@ -65,7 +66,7 @@ pub fn rest_of(payload: u32, w: u32) -> u32
 {
     // what is lacking to all ones begins with the same bit
     let lack = pow2(w) - payload - 1;
-    32 - u32::leading_zeros(lack)
+    32 - lack.leading_zeros()
 }
 
 pub fn length_of(payload: u32, w: u32) -> u32
@@ -119,12 +120,10 @@ pub fn matches(payload: u32, w: u32, k: u32, hash: u64) -> bool
     if pow2(w) <= payload {
         return false;
     }
-    let m = rest_of(payload, w);
-    if m == 0 {
-        return false; // a tombstone
+    match rest_of(payload, w) {
+        0 => false, // a tombstone
+        rest => payload % pow2(rest - 1) == hash_bits(hash, k, rest - 1),
     }
-    let l = m - 1;
-    payload % pow2(l) == hash_bits(hash, k, l)
 }
 
 // The entry of a hash with l fingerprint bits.

@@ -6,7 +6,7 @@ use mathlib.Core.List.{List, [], ◌∷◌, ◌++◌, map, append_assoc, append-
 use Prim.Native.Nat.{ℕ, zero, suc, ◌+◌, ◌*◌, ◌-◌, ◌/◌, ◌%◌, ◌≤◌, ◌<◌}
 use native.Mathlib.Omega.{arith}
 use borrow.Author.Tests.{eqb-true, ltb-true, leb-true, eq-eqb, lt-ltb, le-leb}
-use lib.Dec.{leb, ltb, eqb}
+use lib.Dec.{ltb, eqb}
 use lib.ListN.{length, length-append, length-map}
 use Rattle.lists.specs.Runs.{Runs, total}
 use Rattle.lists.proofs.Tests.{no_true, test-true, true-test, and_left, and_right}
@@ -14,8 +14,11 @@ use Rattle.lists.proofs.Alls.{All}
 use Rattle.layout.specs.Machine.{Entry, more, occupied, mark, emit, rest, scan, left}
 use Rattle.layout.proofs.Laws.{mark-length, total-append}
 use Rattle.layout.proofs.Round.{marks}
+use Rattle.std.specs.Prelude.{Option, Some, None}
+use Rattle.std.specs.Bool.{then_some}
+use Rattle.std.specs.Option.{option_map_or}
 use Rattle.sound.specs.declared.Lap.{Lap}
-use Rattle.sound.specs.Lap.{empty, home, moved, next, never, arm, step, fits}
+use Rattle.sound.specs.Lap.{no_entry, an_entry, empty, home, moved, goes_on, next, arm, step, fits}
 
 pub and-true : (a b : Bool) → (a && b) ≡ true → (a ≡ true) × (b ≡ true)
 and-true a b e = (test-true a (and_left a b (true-test (a && b) e)), test-true b (and_right a b (true-test (a && b) e)))
@@ -39,10 +42,10 @@ Run f (x ∷ xs) = (f x ≡ true) × Rises f x xs
 abbrev pub Waiting : (ℕ → Bool) → List ℕ → Type 0
 Waiting f r = (1 ≤ length r) × Run f r
 
--- the later entries of the run of the slot before
-unfoldable pub After : (ℕ → Bool) → Bool → ℕ → List ℕ → Type 0
-After f false x xs = xs ≡ []
-After f true x xs = Rises f x xs
+-- the later entries of the run of the slot before, none where that holds no entry
+unfoldable pub After : (ℕ → Bool) → Option ℕ → List ℕ → Type 0
+After f None xs = xs ≡ []
+After f (Some x) xs = Rises f x xs
 
 abbrev pub queue : List ℕ → Runs → List Entry
 queue xs us = map more xs ++ marks us
@@ -52,7 +55,7 @@ pub record Rest (f : ℕ → Bool) (n : ℕ) (s : Lap) (ws : List ℕ) : Type 0 
   pub xs : List ℕ
   pub us : Runs
   pub rs : Runs
-  pub going : After f s.inside s.last xs
+  pub going : After f s.last xs
   pub held : All (Waiting f) us
   pub waits : s.begun + length us ≡ s.opened
   pub good : All (Run f) rs
@@ -60,20 +63,20 @@ pub record Rest (f : ℕ → Bool) (n : ℕ) (s : Lap) (ws : List ℕ) : Type 0 
   pub none : left rs (queue xs us) ≡ []
   pub count : s.count + (length xs + total us + total rs) ≡ n
 
-after-nil : (f : ℕ → Bool) (b : Bool) (x : ℕ) → After f b x []
+after-nil : (f : ℕ → Bool) (o : Option ℕ) → After f o []
 unfolding After Rises
-after-nil f true x = tt
-after-nil f false x = refl
+after-nil f (Some x) = tt
+after-nil f None = refl
 
-after-cons : (f : ℕ → Bool) (b : Bool) (x p : ℕ) (xs : List ℕ) → After f b x (p ∷ xs) → (b ≡ true) × (x ≤ p) × (f p ≡ true) × Rises f p xs
+after-cons : (f : ℕ → Bool) (o : Option ℕ) (p : ℕ) (xs : List ℕ) → After f o (p ∷ xs) → (goes_on o p ≡ true) × (f p ≡ true) × Rises f p xs
 unfolding After Rises
-after-cons f true x p xs h = (refl, h.0, h.1, h.2)
-after-cons f false x p xs h = absurd (omega (arith, ap length h))
+after-cons f (Some x) p xs h = (le-leb x p h.0, h.1, h.2)
+after-cons f None p xs h = absurd (omega (arith, ap length h))
 
-after_on : (f : ℕ → Bool) (b : Bool) (x p : ℕ) (xs : List ℕ) → b ≡ true → x ≤ p → f p ≡ true → Rises f p xs → After f b x (p ∷ xs)
+after_on : (f : ℕ → Bool) (o : Option ℕ) (p : ℕ) (xs : List ℕ) → goes_on o p ≡ true → f p ≡ true → Rises f p xs → After f o (p ∷ xs)
 unfolding After Rises
-after_on f true x p xs e l g h = (l, g, h)
-after_on f false x p xs e l g h = absurd (no_true e)
+after_on f (Some x) p xs e g h = (leb-true x p e, g, h)
+after_on f None p xs e g h = absurd (no_true e)
 
 marks-append : (a b : Runs) → marks (a ++ b) ≡ marks a ++ marks b
 unfolding marks
@@ -165,7 +168,7 @@ split f us k (suc (suc o)) l e h = absurd (omega arith)
 -- ---- a good lap is the machine's
 
 module _ (f : ℕ → Bool) (n : ℕ) (s : Lap) (w : ℕ) (ws : List ℕ) where
-  from_empty : (empty s w).good ≡ true → Rest f n (empty s w) ws → Rest f n s (w ∷ ws)
+  from_empty : (eqb w 0 && eqb s.begun s.opened) ≡ true → Rest f n (no_entry s) ws → Rest f n s (w ∷ ws)
   unfolding After Run scan left emit rest marks total
   from_empty g r =
       let t = and-true (eqb w 0) (eqb s.begun s.opened) g in
@@ -178,7 +181,7 @@ module _ (f : ℕ → Bool) (n : ℕ) (s : Lap) (w : ℕ) (ws : List ℕ) where
         xs = [];
         us = [];
         rs = [] ∷ r.rs;
-        going = after-nil f s.inside s.last;
+        going = after-nil f s.last;
         held = tt;
         waits = omega arith;
         good = (tt, r.good);
@@ -187,7 +190,8 @@ module _ (f : ℕ → Bool) (n : ℕ) (s : Lap) (w : ℕ) (ws : List ℕ) where
         count = omega (arith, r.count, ap length ex, ap total eu);
       }
 
-  from-home : w % 8 ≡ 1 → (home f s (w / 8)).good ≡ true → Rest f n (home f s (w / 8)) ws → Rest f n s (w ∷ ws)
+  from-home : w % 8 ≡ 1 → (eqb s.begun s.opened && f (w / 8)) ≡ true → Rest f n (an_entry s (w / 8) 1 1) ws
+      → Rest f n s (w ∷ ws)
   unfolding After Run scan left emit rest marks total
   from-home a g r =
       let t = and-true (eqb s.begun s.opened) (f (w / 8)) g in
@@ -199,7 +203,7 @@ module _ (f : ℕ → Bool) (n : ℕ) (s : Lap) (w : ℕ) (ws : List ℕ) where
         xs = [];
         us = [];
         rs = (w / 8 ∷ r.xs) ∷ r.rs;
-        going = after-nil f s.inside s.last;
+        going = after-nil f s.last;
         held = tt;
         waits = omega arith;
         good = ((t.1, r.going), r.good);
@@ -209,7 +213,7 @@ module _ (f : ℕ → Bool) (n : ℕ) (s : Lap) (w : ℕ) (ws : List ℕ) where
       }
 
   split-moved : s.begun < s.opened → 4 ≤ w % 8 → w % 8 < 6 → f (w / 8) ≡ true
-      → (r : Rest f n (moved f s (w / 8) (w % 2)) ws) → Split f r.us (s.opened - suc s.begun) (w % 2) → Rest f n s (w ∷ ws)
+      → (r : Rest f n (an_entry s (w / 8) (w % 2) 1) ws) → Split f r.us (s.opened - suc s.begun) (w % 2) → Rest f n s (w ∷ ws)
   unfolding After Run scan left emit rest marks total mark
   split-moved b a a' t r d =
       let q : queue r.xs r.us ≡ queue r.xs d.init ++ mark d.run = ap (queue r.xs) d.is ∙ sym (joined-queue r.xs d.init d.run) in
@@ -218,7 +222,7 @@ module _ (f : ℕ → Bool) (n : ℕ) (s : Lap) (w : ℕ) (ws : List ℕ) where
         xs = [];
         us = (w / 8 ∷ r.xs) ∷ d.init;
         rs = d.run ∷ r.rs;
-        going = after-nil f s.inside s.last;
+        going = after-nil f s.last;
         held = ((omega arith, (t, r.going)), d.held);
         waits = omega (arith, d.size);
         good = (d.fine, r.good);
@@ -227,14 +231,15 @@ module _ (f : ℕ → Bool) (n : ℕ) (s : Lap) (w : ℕ) (ws : List ℕ) where
         count = omega (arith, r.count, ap total d.is, joined-total d.init d.run);
       }
 
-  from-moved : 4 ≤ w % 8 → w % 8 < 6 → (moved f s (w / 8) (w % 2)).good ≡ true → Rest f n (moved f s (w / 8) (w % 2)) ws → Rest f n s (w ∷ ws)
+  from-moved : 4 ≤ w % 8 → w % 8 < 6 → (ltb s.begun s.opened && f (w / 8)) ≡ true
+      → Rest f n (an_entry s (w / 8) (w % 2) 1) ws → Rest f n s (w ∷ ws)
   from-moved a a' g r =
       let t = and-true (ltb s.begun s.opened) (f (w / 8)) g in
       let b : s.begun < s.opened = ltb-true s.begun s.opened t.0 in
       split-moved b a a' t.1 r (split f r.us (s.opened - suc s.begun) (w % 2) (omega arith) (omega (arith, r.waits)) r.held)
 
-  split-next : s.begun ≤ s.opened → 6 ≤ w % 8 → ((xs : List ℕ) → Rises f (w / 8) xs → After f s.inside s.last (w / 8 ∷ xs))
-      → (r : Rest f n (next f s (w / 8) (w % 2)) ws) → Split f r.us (s.opened - s.begun) (w % 2) → Rest f n s (w ∷ ws)
+  split-next : s.begun ≤ s.opened → 6 ≤ w % 8 → ((xs : List ℕ) → Rises f (w / 8) xs → After f s.last (w / 8 ∷ xs))
+      → (r : Rest f n (an_entry s (w / 8) (w % 2) 0) ws) → Split f r.us (s.opened - s.begun) (w % 2) → Rest f n s (w ∷ ws)
   unfolding After Run scan left emit rest marks total mark
   split-next k a t r d =
       let q : queue r.xs r.us ≡ queue r.xs d.init ++ mark d.run = ap (queue r.xs) d.is ∙ sym (joined-queue r.xs d.init d.run) in
@@ -252,13 +257,17 @@ module _ (f : ℕ → Bool) (n : ℕ) (s : Lap) (w : ℕ) (ws : List ℕ) where
         count = omega (arith, r.count, ap total d.is, joined-total d.init d.run);
       }
 
-  from_next : s.begun ≤ s.opened → 6 ≤ w % 8 → (next f s (w / 8) (w % 2)).good ≡ true → Rest f n (next f s (w / 8) (w % 2)) ws → Rest f n s (w ∷ ws)
+  from_next : s.begun ≤ s.opened → 6 ≤ w % 8 → (goes_on s.last (w / 8) && f (w / 8)) ≡ true → Rest f n (an_entry s (w / 8) (w % 2) 0) ws
+      → Rest f n s (w ∷ ws)
   from_next k a g r =
-      let t = and-true s.inside (leb s.last (w / 8) && f (w / 8)) g in
-      let t' = and-true (leb s.last (w / 8)) (f (w / 8)) t.1 in
-      let b : s.last ≤ w / 8 = leb-true s.last (w / 8) t'.0 in
-      split-next k a (λ xs h. after_on f s.inside s.last (w / 8) xs t.0 b t'.1 h) r
+      let t = and-true (goes_on s.last (w / 8)) (f (w / 8)) g in
+      split-next k a (λ xs h. after_on f s.last (w / 8) xs t.0 t.1 h) r
       (split f r.us (s.opened - s.begun) (w % 2) (omega arith) (omega (arith, r.waits)) r.held)
+
+-- what is true of a lap that is there only where a test passes
+passes : (g : Lap → Bool) (b : Bool) (v : Lap) → option_map_or g (then_some b v) false ≡ true → (b ≡ true) × (g v ≡ true)
+passes g true v e = (refl, e)
+passes g false v e = absurd (no_true e)
 
 pub sound : (f : ℕ → Bool) (n : ℕ) (ws : List ℕ) (s : Lap) → s.begun ≤ s.opened → fits f n s ws ≡ true → Rest f n s ws
 unfolding fits step scan left marks total
@@ -270,7 +279,7 @@ sound f n [] s k e =
       xs = [];
       us = [];
       rs = [];
-      going = after-nil f s.inside s.last;
+      going = after-nil f s.last;
       held = tt;
       waits = omega arith;
       good = tt;
@@ -278,32 +287,43 @@ sound f n [] s k e =
       none = refl;
       count = omega arith;
     }
-sound f n (w ∷ ws) s k e =
-    let v = step f s w in
-    let t = and-true v.good (fits f n v ws) e in
-    go (w % 8) refl t.0 (λ h. sound f n ws v h t.1)
+sound f n (w ∷ ws) s k e = go (w % 8) refl e (λ v h g. sound f n ws v h g)
   where
-    at : ℕ → Lap
-    at b = arm b (empty s w) (home f s (w / 8)) (never s) (moved f s (w / 8) (w % 2)) (next f s (w / 8) (w % 2))
-
-    behind : (moved f s (w / 8) (w % 2)).good ≡ true → s.begun + 1 ≤ s.opened + w % 2
+    behind : (ltb s.begun s.opened && f (w / 8)) ≡ true → s.begun + 1 ≤ s.opened + w % 2
     behind g = omega (arith, ltb-true s.begun s.opened (and-true (ltb s.begun s.opened) (f (w / 8)) g).0)
 
-    go : (b : ℕ) → w % 8 ≡ b → (at b).good ≡ true → ((at b).begun ≤ (at b).opened → Rest f n (at b) ws) → Rest f n s (w ∷ ws)
-    go zero a g r = from_empty f n s w ws g (r k)
-    go (suc zero) a g r = from-home f n s w ws a g (r (omega arith))
+    go : (b : ℕ) → w % 8 ≡ b
+        → option_map_or (λ v. fits f n v ws) (arm b (empty s w) (home f s (w / 8)) (moved f s (w / 8) (w % 2)) (next f s (w / 8) (w % 2))) false ≡ true
+        → ((v : Lap) → v.begun ≤ v.opened → fits f n v ws ≡ true → Rest f n v ws) → Rest f n s (w ∷ ws)
+    go zero a g r =
+        let t = passes (λ v. fits f n v ws) (eqb w 0 && eqb s.begun s.opened) (no_entry s) g in
+        from_empty f n s w ws t.0 (r (no_entry s) k t.1)
+    go (suc zero) a g r =
+        let v = an_entry s (w / 8) 1 1 in
+        let t = passes (λ v. fits f n v ws) (eqb s.begun s.opened && f (w / 8)) v g in
+        from-home f n s w ws a t.0 (r v (omega arith) t.1)
     go (suc (suc zero)) a g r = absurd (no_true g)
     go (suc (suc (suc zero))) a g r = absurd (no_true g)
-    go (suc (suc (suc (suc zero)))) a g r = from-moved f n s w ws (omega arith) (omega arith) g (r (behind g))
-    go (suc (suc (suc (suc (suc zero))))) a g r = from-moved f n s w ws (omega arith) (omega arith) g (r (behind g))
-    go (suc (suc (suc (suc (suc (suc b)))))) a g r = from_next f n s w ws k (omega arith) g (r (omega arith))
+    go (suc (suc (suc (suc zero)))) a g r =
+        let v = an_entry s (w / 8) (w % 2) 1 in
+        let t = passes (λ v. fits f n v ws) (ltb s.begun s.opened && f (w / 8)) v g in
+        from-moved f n s w ws (omega arith) (omega arith) t.0 (r v (behind t.0) t.1)
+    go (suc (suc (suc (suc (suc zero))))) a g r =
+        let v = an_entry s (w / 8) (w % 2) 1 in
+        let t = passes (λ v. fits f n v ws) (ltb s.begun s.opened && f (w / 8)) v g in
+        from-moved f n s w ws (omega arith) (omega arith) t.0 (r v (behind t.0) t.1)
+    go (suc (suc (suc (suc (suc (suc b)))))) a g r =
+        let v = an_entry s (w / 8) (w % 2) 0 in
+        let t = passes (λ v. fits f n v ws) (goes_on s.last (w / 8) && f (w / 8)) v g in
+        from_next f n s w ws k (omega arith) t.0 (r v (omega arith) t.1)
 
 -- ---- and what the machine writes makes a good lap
 
-module _ (f : ℕ → Bool) (n : ℕ) (s v : Lap) (w : ℕ) (ws : List ℕ) where
-  on : step f s w ≡ v → v.good ≡ true → fits f n v ws ≡ true → fits f n s (w ∷ ws) ≡ true
+module _ (f : ℕ → Bool) (n : ℕ) (s v : Lap) (b : Bool) (w : ℕ) (ws : List ℕ) where
+  on : step f s w ≡ then_some b v → b ≡ true → fits f n v ws ≡ true → fits f n s (w ∷ ws) ≡ true
   unfolding fits
-  on e g h = rw e (true-and v.good (fits f n v ws) g h)
+  on e g h =
+      ap (λ (o : Option Lap). option_map_or (λ x. fits f n x ws) o false) (e ∙ ap (λ (c : Bool). then_some c v) g) ∙ h
 
 module _ (f : ℕ → Bool) (s : Lap) (w p o : ℕ) where
   pub is_home : w ≡ p * 8 + 1 → step f s w ≡ home f s p
@@ -320,7 +340,7 @@ module _ (f : ℕ → Bool) (s : Lap) (w p o : ℕ) where
       let d : w % 2 ≡ o = omega arith in
       rw (b, d) (go (w % 8) (omega arith) (omega arith))
     where
-      go : (k : ℕ) → 4 ≤ k → k ≤ 5 → arm k (empty s w) (home f s p) (never s) (moved f s p o) (next f s p o) ≡ moved f s p o
+      go : (k : ℕ) → 4 ≤ k → k ≤ 5 → arm k (empty s w) (home f s p) (moved f s p o) (next f s p o) ≡ moved f s p o
       go zero x y = absurd (omega arith)
       go (suc zero) x y = absurd (omega arith)
       go (suc (suc zero)) x y = absurd (omega arith)
@@ -336,7 +356,7 @@ module _ (f : ℕ → Bool) (s : Lap) (w p o : ℕ) where
       let d : w % 2 ≡ o = omega arith in
       rw (b, d) (go (w % 8) (omega arith))
     where
-      go : (k : ℕ) → 6 ≤ k → arm k (empty s w) (home f s p) (never s) (moved f s p o) (next f s p o) ≡ next f s p o
+      go : (k : ℕ) → 6 ≤ k → arm k (empty s w) (home f s p) (moved f s p o) (next f s p o) ≡ next f s p o
       go zero x = absurd (omega arith)
       go (suc zero) x = absurd (omega arith)
       go (suc (suc zero)) x = absurd (omega arith)
@@ -350,7 +370,7 @@ occupied-le [] = omega arith
 occupied-le (x ∷ r) = omega arith
 
 pub complete : (f : ℕ → Bool) (n : ℕ) (rs : Runs) (xs : List ℕ) (us : Runs) (s : Lap)
-    → After f s.inside s.last xs → All (Waiting f) us → s.begun + length us ≡ s.opened → All (Run f) rs
+    → After f s.last xs → All (Waiting f) us → s.begun + length us ≡ s.opened → All (Run f) rs
     → left rs (queue xs us) ≡ [] → s.count + (length xs + total us + total rs) ≡ n → fits f n s (scan rs (queue xs us)) ≡ true
 unfolding fits scan left emit rest mark marks total
 complete f n [] xs us s a h b g z c =
@@ -358,32 +378,33 @@ complete f n [] xs us s a h b g z c =
     true-and (eqb s.begun s.opened) (eqb s.count n)
     (eq-eqb s.begun s.opened (omega (arith, held-total f us h))) (eq-eqb s.count n (omega arith))
 complete f n ([] ∷ rs) [] [] s a h b g z c =
-    on f n s (empty s 0) 0 (scan rs []) (unfold step in refl)
+    on f n s (no_entry s) (eqb s.begun s.opened) 0 (scan rs []) (unfold step in refl)
     (eq-eqb s.begun s.opened (omega arith))
-    (complete f n rs [] [] (empty s 0) (after-nil f false 0) tt b g.1 z (omega arith))
+    (complete f n rs [] [] (no_entry s) (after-nil f None) tt b g.1 z (omega arith))
 complete f n ((x ∷ ys) ∷ rs) [] [] s a h b g z c =
     let q : map more ys ≡ queue ys [] = sym (append-nil (map more ys)) in
-    on f n s (home f s x) (x * 8 + 1) (scan rs (map more ys)) (is_home f s (x * 8 + 1) x 0 refl)
+    let v = an_entry s x 1 1 in
+    on f n s v (eqb s.begun s.opened && f x) (x * 8 + 1) (scan rs (map more ys)) (is_home f s (x * 8 + 1) x 0 refl)
     (true-and (eqb s.begun s.opened) (f x) (eq-eqb s.begun s.opened (omega arith)) (unfold Run in g.0.0))
-    (ap (λ (l : List Entry). fits f n (home f s x) (scan rs l)) q
-    ∙ complete f n rs ys [] (home f s x) (unfold After Run in g.0.1) tt (omega arith) g.1 (ap (left rs) (sym q) ∙ z) (omega arith))
+    (ap (λ (l : List Entry). fits f n v (scan rs l)) q
+    ∙ complete f n rs ys [] v (unfold After Run in g.0.1) tt (omega arith) g.1 (ap (left rs) (sym q) ∙ z) (omega arith))
 complete f n (r ∷ rs) [] ([] ∷ us) s a h b g z c = absurd (omega (arith, h.0.0))
 complete f n (r ∷ rs) [] ((p ∷ ys) ∷ us) s a h b g z c =
     let w = p * 8 + 4 + occupied r in
-    let v = moved f s p (occupied r) in
+    let v = an_entry s p (occupied r) 1 in
     let q : queue ys us ++ mark r ≡ queue ys (joined us r) = joined-queue ys us r in
-    on f n s v w (scan rs (queue ys us ++ mark r)) (is-moved f s w p (occupied r) (occupied-le r) refl)
+    on f n s v (ltb s.begun s.opened && f p) w (scan rs (queue ys us ++ mark r)) (is-moved f s w p (occupied r) (occupied-le r) refl)
     (true-and (ltb s.begun s.opened) (f p) (lt-ltb s.begun s.opened (omega arith)) (unfold Run in h.0.1.0))
     (ap (λ (l : List Entry). fits f n v (scan rs l)) q
     ∙ complete f n rs ys (joined us r) v (unfold After Run in h.0.1.1) (joined-held f us r h.1 g.0) (omega (arith, joined_length us r)) g.1
     (ap (left rs) (sym q) ∙ z) (omega (arith, joined-total us r)))
 complete f n (r ∷ rs) (p ∷ xs) us s a h b g z c =
     let w = p * 8 + 2 + 4 + occupied r in
-    let v = next f s p (occupied r) in
+    let v = an_entry s p (occupied r) 0 in
     let q : queue xs us ++ mark r ≡ queue xs (joined us r) = joined-queue xs us r in
-    let t = after-cons f s.inside s.last p xs a in
-    on f n s v w (scan rs (queue xs us ++ mark r)) (is-next f s w p (occupied r) (occupied-le r) refl)
-    (true-and s.inside (leb s.last p && f p) t.0 (true-and (leb s.last p) (f p) (le-leb s.last p t.1) t.2))
+    let t = after-cons f s.last p xs a in
+    on f n s v (goes_on s.last p && f p) w (scan rs (queue xs us ++ mark r)) (is-next f s w p (occupied r) (occupied-le r) refl)
+    (true-and (goes_on s.last p) (f p) t.0 t.1)
     (ap (λ (l : List Entry). fits f n v (scan rs l)) q
-    ∙ complete f n rs xs (joined us r) v (unfold After in t.3) (joined-held f us r h g.0) (omega (arith, joined_length us r)) g.1
+    ∙ complete f n rs xs (joined us r) v (unfold After in t.2) (joined-held f us r h g.0) (omega (arith, joined_length us r)) g.1
     (ap (left rs) (sym q) ∙ z) (omega (arith, joined-total us r)))

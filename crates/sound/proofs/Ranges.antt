@@ -1,14 +1,16 @@
 -- The payload tests are spans of numbers: payloads with more than d bits left lie below 2^w - 2^d.
-use mathlib.Core.Path.{◌≡◌, refl, sym, ap, ◌∙◌}
+use mathlib.Core.Path.{◌≡◌, refl, ap₂, ◌∙◌}
 use mathlib.Core.Logic.{◌⊎◌, inl, inr}
 use mathlib.Core.Bool.{Bool, true, false, ◌&&◌, ◌||◌}
 use Prim.Native.Nat.{ℕ, suc, ◌+◌, ◌-◌, ◌^◌, ◌≤◌, ◌<◌}
 use native.Mathlib.Omega.{arith}
-use native.Mathlib.Nat.{pow-suc, pow-zero}
+use native.Mathlib.Nat.{pow-suc}
 use native.Mathlib.Decide.{dec_lt}
 use lib.Dec.{leb, ltb, eqb}
 use lib.Pow.{pow_mono}
 use borrow.Author.Tests.{eqb-true, ltb-true, leb-true, eq-eqb, lt-ltb, le-leb}
+use Rattle.std.specs.Ordering.{nat_cmp, is_le, is_lt}
+use Rattle.std.proofs.lemmas.Bool.Decides.{nat_tests}
 use Rattle.slots.specs.Payload.{rest_of, length_of}
 use Rattle.slots.proofs.PayloadLaws.{rest-range}
 use Rattle.sound.specs.declared.Spans.{Spans}
@@ -53,21 +55,27 @@ module _ (w p d : ℕ) (h : p < 2 ^ w) where
 
 -- below b, or among the last two
 abbrev pub main_spans : ℕ → ℕ → Spans
-main_spans w k = record { from = 0; below = 2 ^ w - 2 ^ (6 - k); also = 2 ^ w - 2; end = 2 ^ w }
+main_spans w k = record { kept = record { start = 0; end = 2 ^ w - 2 ^ (6 - k) }; lost = record { start = 2 ^ w - 2; end = 2 ^ w } }
 
 abbrev pub annex_spans : ℕ → Spans
-annex_spans l = record { from = 2 ^ 18 - 2 ^ (l + 1); below = 2 ^ 18 - 2 ^ l; also = 0; end = 0 }
+annex_spans l = record { kept = record { start = 2 ^ 18 - 2 ^ (l + 1); end = 2 ^ 18 - 2 ^ l }; lost = record { start = 0; end = 0 } }
 
 module _ (w k p : ℕ) where
   main-in : allowed (main_spans w k) p ≡ true → main_entry w k p ≡ true
   unfolding allowed main_entry length_of
   main-in e = go (or-true (leb 0 p && ltb p (2 ^ w - 2 ^ (6 - k))) (leb (2 ^ w - 2) p && ltb p (2 ^ w)) e)
     where
-      fin : p < 2 ^ w → (rest_of w p - 1 ≡ 0) ⊎ (6 ≤ k + (rest_of w p - 1)) → (ltb p (2 ^ w) && (eqb (rest_of w p - 1) 0 || leb 6 (k + (rest_of w p - 1)))) ≡ true
-      fin h (inl a) = true-and (ltb p (2 ^ w)) (eqb (rest_of w p - 1) 0 || leb 6 (k + (rest_of w p - 1))) (lt-ltb p (2 ^ w) h) (or_left (eqb (rest_of w p - 1) 0) (leb 6 (k + (rest_of w p - 1))) (eq-eqb (rest_of w p - 1) 0 a))
-      fin h (inr a) = true-and (ltb p (2 ^ w)) (eqb (rest_of w p - 1) 0 || leb 6 (k + (rest_of w p - 1))) (lt-ltb p (2 ^ w) h) (or_right (eqb (rest_of w p - 1) 0) (leb 6 (k + (rest_of w p - 1))) (le-leb 6 (k + (rest_of w p - 1)) a))
+      fin : p < 2 ^ w → (rest_of w p - 1 ≡ 0) ⊎ (6 ≤ k + (rest_of w p - 1))
+          → (ltb p (2 ^ w) && (eqb (rest_of w p - 1) 0 || leb 6 (k + (rest_of w p - 1)))) ≡ true
+      fin h (inl a) =
+          true-and (ltb p (2 ^ w)) (eqb (rest_of w p - 1) 0 || leb 6 (k + (rest_of w p - 1))) (lt-ltb p (2 ^ w) h)
+          (or_left (eqb (rest_of w p - 1) 0) (leb 6 (k + (rest_of w p - 1))) (eq-eqb (rest_of w p - 1) 0 a))
+      fin h (inr a) =
+          true-and (ltb p (2 ^ w)) (eqb (rest_of w p - 1) 0 || leb 6 (k + (rest_of w p - 1))) (lt-ltb p (2 ^ w) h)
+          (or_right (eqb (rest_of w p - 1) 0) (leb 6 (k + (rest_of w p - 1))) (le-leb 6 (k + (rest_of w p - 1)) a))
 
-      go : ((leb 0 p && ltb p (2 ^ w - 2 ^ (6 - k))) ≡ true) ⊎ ((leb (2 ^ w - 2) p && ltb p (2 ^ w)) ≡ true) → (ltb p (2 ^ w) && (eqb (rest_of w p - 1) 0 || leb 6 (k + (rest_of w p - 1)))) ≡ true
+      go : ((leb 0 p && ltb p (2 ^ w - 2 ^ (6 - k))) ≡ true) ⊎ ((leb (2 ^ w - 2) p && ltb p (2 ^ w)) ≡ true)
+          → (ltb p (2 ^ w) && (eqb (rest_of w p - 1) 0 || leb 6 (k + (rest_of w p - 1)))) ≡ true
       go (inl a) =
           let b : p < 2 ^ w - 2 ^ (6 - k) = ltb-true p (2 ^ w - 2 ^ (6 - k)) (and-true (leb 0 p) (ltb p (2 ^ w - 2 ^ (6 - k))) a).1 in
           let l : 6 - k < rest_of w p = longer-if w p (6 - k) (omega arith) (omega arith) in
@@ -117,7 +125,8 @@ module _ (l p : ℕ) where
   unfolding allowed annex_entry
   annex-in e = go (or-true (leb (2 ^ 18 - 2 ^ (l + 1)) p && ltb p (2 ^ 18 - 2 ^ l)) (leb 0 p && ltb p 0) e)
     where
-      go : ((leb (2 ^ 18 - 2 ^ (l + 1)) p && ltb p (2 ^ 18 - 2 ^ l)) ≡ true) ⊎ ((leb 0 p && ltb p 0) ≡ true) → (ltb p (2 ^ 18) && eqb (rest_of 18 p) (l + 1)) ≡ true
+      go : ((leb (2 ^ 18 - 2 ^ (l + 1)) p && ltb p (2 ^ 18 - 2 ^ l)) ≡ true) ⊎ ((leb 0 p && ltb p 0) ≡ true)
+          → (ltb p (2 ^ 18) && eqb (rest_of 18 p) (l + 1)) ≡ true
       go (inl a) =
           let t = and-true (leb (2 ^ 18 - 2 ^ (l + 1)) p) (ltb p (2 ^ 18 - 2 ^ l)) a in
           let b : p < 2 ^ 18 - 2 ^ l = ltb-true p (2 ^ 18 - 2 ^ l) t.1 in
@@ -137,10 +146,35 @@ module _ (l p : ℕ) where
       let x : p + 2 ^ l < 2 ^ 18 = longer 18 p l h (omega arith) in
       let y : 2 ^ 18 ≤ p + 2 ^ (l + 1) = shorter 18 p (l + 1) h (omega arith) in
       or_left (leb (2 ^ 18 - 2 ^ (l + 1)) p && ltb p (2 ^ 18 - 2 ^ l)) (leb 0 p && ltb p 0)
-      (true-and (leb (2 ^ 18 - 2 ^ (l + 1)) p) (ltb p (2 ^ 18 - 2 ^ l)) (le-leb (2 ^ 18 - 2 ^ (l + 1)) p (omega arith)) (lt-ltb p (2 ^ 18 - 2 ^ l) (omega arith)))
+      (true-and (leb (2 ^ 18 - 2 ^ (l + 1)) p) (ltb p (2 ^ 18 - 2 ^ l)) (le-leb (2 ^ 18 - 2 ^ (l + 1)) p (omega arith))
+      (lt-ltb p (2 ^ 18 - 2 ^ l) (omega arith)))
 
   pub annex-spans : allowed (annex_spans l) p ≡ annex_entry l p
   annex-spans = same_test (allowed (annex_spans l) p) (annex_entry l p) annex-in in-annex
+
+-- ---- the code's tests
+
+le-is : (a b : ℕ) → is_le (nat_cmp a b) ≡ leb a b
+le-is a b = grind (arith, nat_tests)
+
+lt-is : (a b : ℕ) → is_lt (nat_cmp a b) ≡ ltb a b
+lt-is a b = grind (arith, nat_tests)
+
+-- what `contains` answers
+abbrev within : ℕ → ℕ → ℕ → Bool
+within a b p = is_le (nat_cmp a p) && is_lt (nat_cmp p b)
+
+within-is : (a b p : ℕ) → within a b p ≡ (leb a p && ltb p b)
+within-is a b p = ap₂ (λ (x y : Bool). x && y) (le-is a p) (lt-is p b)
+
+module _ (t : Spans) (p : ℕ) (kept : Bool) (e : kept ≡ within t.kept.start t.kept.end p) where
+  pub allow-kept : kept ≡ true → kept ≡ allowed t p
+  unfolding allowed
+  allow-kept h = rw (← within-is t.kept.start t.kept.end p, ← e, h)
+
+  pub allow-lost : kept ≡ false → (lost : Bool) → lost ≡ within t.lost.start t.lost.end p → lost ≡ allowed t p
+  unfolding allowed
+  allow-lost h lost f = rw (← within-is t.kept.start t.kept.end p, ← e, h) (f ∙ within-is t.lost.start t.lost.end p)
 
 -- as tests
 pub main-test : (w k : ℕ) → allowed (main_spans w k) ≡ main_entry w k
@@ -156,15 +190,10 @@ power_le a b x y ex ey h = omega (arith, pow_mono {i = a} {j = b} h)
 pub power-low : (w y : ℕ) → y ≡ 2 ^ w → 4 ≤ w → 2 ≤ y
 power-low w y ey h = omega (arith, pow_mono {i = 4} {j = w} h)
 
-pub main-short : (w k e d : ℕ) → e ≡ 2 ^ w → d ≡ 2 ^ (6 - k) → allowed (record { from = 0; below = e - d; also = e - 2; end = e }) ≡ main_entry w k
-main-short w k e d a b = rw (a, b) (main-test w k)
-
-pub main_long : (w k e : ℕ) → e ≡ 2 ^ w → 6 ≤ k → allowed (record { from = 0; below = e - 1; also = e - 2; end = e }) ≡ main_entry w k
-main_long w k e a h =
-    let z : 6 - k ≡ 0 = omega arith in
-    let o : 1 ≡ 2 ^ (6 - k) = sym (ap (λ (x : ℕ). 2 ^ x) z ∙ pow-zero 2) in
-    main-short w k e 1 a o
+pub main-made : (w k e d : ℕ) → e ≡ 2 ^ w → d ≡ 2 ^ (6 - k)
+    → allowed (record { kept = record { start = 0; end = e - d }; lost = record { start = e - 2; end = e } }) ≡ main_entry w k
+main-made w k e d a b = rw (a, b) (main-test w k)
 
 pub annex-made : (l e g d : ℕ) → e ≡ 2 ^ 18 → g ≡ 2 ^ (l + 1) → d ≡ 2 ^ l
-    → allowed (record { from = e - g; below = e - d; also = 0; end = 0 }) ≡ annex_entry l
+    → allowed (record { kept = record { start = e - g; end = e - d }; lost = record { start = 0; end = 0 } }) ≡ annex_entry l
 annex-made l e g d a b c = rw (a, b, c) (annex-test l)

@@ -1,5 +1,5 @@
--- Reading the run of an address from the place where it begins: the loop passes its later entries one by one, and on a layout they are those of the run, since what
--- waits is stored in order.
+-- Reading the run of an address from the place where it begins: the loop passes its later entries one by one, and on a layout they are those of the run, since
+-- what waits is stored in order.
 use mathlib.Core.Path.{◌≡◌, refl, sym, ap, ap₂, ◌∙◌}
 use mathlib.Core.Bool.{◌&&◌}
 use mathlib.Core.List.{List, [], ◌∷◌, ◌++◌, map, append-nil}
@@ -64,7 +64,8 @@ read_none words c k t v z =
     let e : read_at words c k ≡ [] = ap (λ (x : ℕ). stop' x (get_or (turn c words) k 0 / 8 ∷ later (turn c words) (k + 1))) z in
     record { size = sym (ap length e); fits = omega arith; tombstones = sym (ap (count t) e); voids = sym (ap (count v) e) }
 
-module _ (words : List ℕ) (c k t v i a b : ℕ) (hc : c < length words) (hk : k < length words) (nz : get_or words c 0 % 2 ≡ 0 → ⊥) (ei : i ≡ wrap (length words) c k)
+module _ (words : List ℕ) (c k t v i a b : ℕ) (hc : c < length words) (hk : k < length words) (nz : get_or words c 0 % 2 ≡ 0 → ⊥)
+    (ei : i ≡ wrap (length words) c k)
     (ea : (a ≡ is t (get_or words i 0 / 8)) × (a ≤ 1)) (eb : (b ≡ is v (get_or words i 0 / 8)) × (b ≤ 1)) where
   first : read_at words c k ≡ get_or words i 0 / 8 ∷ later (turn c words) (k + 1)
   unfolding read_at
@@ -72,7 +73,8 @@ module _ (words : List ℕ) (c k t v i a b : ℕ) (hc : c < length words) (hk : 
       go (get_or words c 0 % 2) nz
       ∙ ap (λ (x : ℕ). x / 8 ∷ later (turn c words) (k + 1)) (sym (ap (λ (j : ℕ). get_or words j 0) ei ∙ get-wrap words c k (omega arith) hk 0))
     where
-      go : (x : ℕ) → (x ≡ 0 → ⊥) → stop' x (get_or (turn c words) k 0 / 8 ∷ later (turn c words) (k + 1)) ≡ get_or (turn c words) k 0 / 8 ∷ later (turn c words) (k + 1)
+      go : (x : ℕ) → (x ≡ 0 → ⊥) → stop' x (get_or (turn c words) k 0 / 8 ∷ later (turn c words) (k + 1))
+          ≡ get_or (turn c words) k 0 / 8 ∷ later (turn c words) (k + 1)
       go zero n = absurd (n refl)
       go (suc x) n = refl
 
@@ -89,7 +91,8 @@ module _ (words : List ℕ) (c k t v i a b : ℕ) (hc : c < length words) (hk : 
         voids = ap (count v) first ∙ ap (λ (x : ℕ). x + count v l) (sym eb.0);
       }
 
-module _ (words : List ℕ) (c k t v j i a b : ℕ) (hc : c < length words) (hj : j < length words) (ei : i ≡ wrap (length words) c j) (g : Going words c k t v j a b) where
+module _ (words : List ℕ) (c k t v j i a b : ℕ) (hc : c < length words) (hj : j < length words) (ei : i ≡ wrap (length words) c j)
+    (g : Going words c k t v j a b) where
   same : get_or (turn c words) j 0 ≡ get_or words i 0
   same = sym (ap (λ (x : ℕ). get_or words x 0) ei ∙ get-wrap words c j (omega arith) hj 0)
 
@@ -122,7 +125,8 @@ module _ (words : List ℕ) (c k t v j i a b : ℕ) (hc : c < length words) (hj 
         voids = omega (arith, g.voids);
       }
 
-pub going_end : (words : List ℕ) (c k t v j a b : ℕ) → length words ≤ j → j ≤ length words → Going words c k t v j a b → Read words c k t v (j - k) a b
+pub going_end : (words : List ℕ) (c k t v j a b : ℕ) → length words ≤ j → j ≤ length words → Going words c k t v j a b
+    → Read words c k t v (length words - k) a b
 unfolding count
 going_end words c k t v j a b h h' g =
     let e : later (turn c words) j ≡ [] = later-end (turn c words) j (omega (arith, turn-length c words)) in
@@ -134,12 +138,10 @@ going_end words c k t v j a b h h' g =
     }
 
 -- the code's comparison
-pub agree : (words : List ℕ) (c k w t v len a b evens want m m' named : ℕ) → t ≡ tombstone w → v ≡ void w → Read words c k t v len a b → m' ≡ m → want ≡ m' - named
+pub agree : (words : List ℕ) (c k w t v len a b evens want m m' named : ℕ) → t ≡ tombstone w → v ≡ void w → Read words c k t v len a b → m' ≡ m
+    → want ≡ m' - named
     → (eqb a evens && eqb b want) ≡ (eqb (count (tombstone w) (read_at words c k)) evens && eqb (count (void w) (read_at words c k)) (m - named))
 agree words c k w t v len a b evens want m m' named et ev r f e = rw (r.tombstones, r.voids, e, f, et, ev)
-
-pub onwards : (words : List ℕ) (c k t v len a b z : ℕ) → Read words c k t v len a b → z ≡ k + len - 1 → z ≡ k + length (read_at words c k) - 1
-onwards words c k t v len a b z r e = e ∙ ap (λ (x : ℕ). k + x - 1) r.size
 
 -- ---- on a layout the code reads the run
 

@@ -2,7 +2,7 @@
 use mathlib.Core.Path.{◌≡◌, refl, sym, ap, ap₂, ◌∙◌}
 use mathlib.Core.Bool.{Bool, true, false, ◌&&◌}
 use mathlib.Core.List.{List, [], ◌∷◌}
-use Prim.Native.Nat.{ℕ, zero, suc, ◌+◌, ◌-◌, ◌≤◌, ◌<◌}
+use Prim.Native.Nat.{ℕ, zero, suc, ◌+◌, ◌-◌, ◌<◌}
 use native.Mathlib.Omega.{arith}
 use borrow.Author.Tests.{eqb-true, leb-true, eq-eqb, le-leb}
 use lib.Dec.{eqb, leb}
@@ -175,16 +175,16 @@ module _ (f : ℕ → Bool) (n : ℕ) (words : List ℕ) (z : ℕ) (hz : z < len
       ∙ complete f n ts [] [] start refl tt (omega arith) (all-turn (Run f) z runs t.good) p (omega (arith, total-turn z runs, t.count))
 
   -- the law of the code that has found an empty slot
-  pub found : (r : Bool) → (z < length words → get_or words z 0 ≡ 0) → r ≡ fits f n start (turn z words) → r ≡ table_right f n words
+  pub found : (r : Bool) → get_or words z 0 ≡ 0 → r ≡ fits f n start (turn z words) → r ≡ table_right f n words
   found r e er =
       er
       ∙ same_test (fits f n start (turn z words)) (table_right f n words)
-      (λ h. table-right f n words hn (lap-table h)) (λ h. table-lap (e hz) (right-table f n words h))
+      (λ h. table-right f n words hn (lap-table h)) (λ h. table-lap e (right-table f n words h))
 
 -- and of that which has found none
-pub not_found : (f : ℕ → Bool) (n : ℕ) (words : List ℕ) (z : ℕ) → n < length words → length words ≤ z
-    → ((k : ℕ) → k < z → get_or words k 0 ≡ 0 → ⊥) → false ≡ table_right f n words
-not_found f n words z hn hz h =
+pub not_found : (f : ℕ → Bool) (n : ℕ) (words : List ℕ) → n < length words → ((k : ℕ) → k < length words → get_or words k 0 ≡ 0 → ⊥)
+    → false ≡ table_right f n words
+not_found f n words hn h =
     same_test false (table_right f n words) (λ e. absurd (no_true e)) (λ e. absurd (none (right-table f n words e)))
   where
     none : Table f n words → ⊥

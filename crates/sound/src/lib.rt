@@ -1,21 +1,29 @@
 #![tactic(auto)]
 
 // The audit of one table: is it the layout of what it decodes to, and what a run holds.
-ghost use Rattle.std.specs.Prelude.{◌≡◌, ℕ, ◌/◌, ◌≤◌, ◌<◌, eqb, length, get_or};
+ghost use Rattle.std.specs.Prelude.{◌≡◌, ◌≢◌, ℕ, ◌/◌, ◌≤◌, ◌<◌, ◌==◌, Some, length, slice_index, slice_get, IfSome, IfNone};
 ghost use Rattle.lists.specs.Lists.{bit};
 ghost use Rattle.layout.specs.Decode.{turn};
 ghost use Rattle.rules.specs.Sound.{table_right, main_entry, annex_entry};
 ghost use Rattle.sound.specs.Spans.{allowed};
-ghost use Rattle.sound.specs.Lap.{no_entry, an_entry, step, fits, start};
+ghost use Rattle.sound.specs.Lap.{no_entry, an_entry, goes_on, step, fits, start};
 ghost use Rattle.sound.specs.Reading.{Read};
 
-// The payloads that a table may hold: those from `from` below `below`, and those from `also` below `end`.
-#[derive(Clone, Copy)]
+use std::ops::Range;
+
+// The payloads that a table may hold: those that keep bits, and those that have lost all.
+#[derive(Drop)]
 pub struct Spans {
-    pub from: u32,
-    pub below: u32,
-    pub also: u32,
-    pub end: u32,
+    pub kept: Range<u32>,
+    pub lost: Range<u32>,
+}
+
+impl Spans {
+    fn allow(&self, payload: u32) -> bool
+        ensures { result ≡ allowed self.now payload }
+    {
+        self.kept.contains(&payload) || self.lost.contains(&payload)
+    }
 }
 
 // What a main table of 2^k slots may hold at width w.
@@ -24,20 +32,10 @@ pub fn main_spans(k: u32, w: u32) -> Spans
     ensures { allowed result ≡ main_entry w k }
 {
     let end = slots::pow2(w);
-    if k < 6 {
-        let short = slots::pow2(6 - k);
-        return Spans {
-            from: 0,
-            below: end - short,
-            also: end - 2,
-            end: end,
-        };
-    }
+    let short = slots::pow2(6u32.saturating_sub(k));
     Spans {
-        from: 0,
-        below: end - 1,
-        also: end - 2,
-        end: end,
+        kept: 0..end - short,
+        lost: end - 2..end,
     }
 }
 
@@ -47,135 +45,90 @@ pub fn annex_spans(l: u32) -> Spans
     ensures { allowed result ≡ annex_entry l }
 {
     let end = slots::pow2(18);
-    let long = slots::pow2(l + 1);
-    let short = slots::pow2(l);
     Spans {
-        from: end - long,
-        below: end - short,
-        also: 0,
-        end: 0,
+        kept: end - slots::pow2(l + 1)..end - slots::pow2(l),
+        lost: 0..0,
     }
 }
 
-fn is_allowed(t: Spans, p: u32) -> bool
-    ensures { result ≡ allowed t p }
-{
-    ((t.from <= p) & (p < t.below)) | ((t.also <= p) & (p < t.end))
-}
-
-// Where the audit stands on its lap: `opened` occupied addresses are passed, `begun` runs have begun; `inside` says that the slot before holds an entry, with
-// payload `last`; `count` entries are passed. `good` says that the last slot's word may stand there.
-#[derive(Clone, Copy)]
+// Where the audit stands on its lap: `opened` occupied addresses are passed, `begun` runs have begun, `count` entries are passed; `last` is the payload
+// of the entry in the slot before, if that holds one.
+#[derive(Clone, Copy, Default)]
 pub struct Lap {
-    pub good: bool,
     pub opened: u32,
     pub begun: u32,
-    pub inside: bool,
-    pub last: u32,
+    pub last: Option<u32>,
     pub count: u32,
 }
 
-// The lap after a slot with no entry.
-fn no_entry(s: Lap, good: bool) -> Lap
-    ensures { result ≡ no_entry s good }
-{
-    Lap {
-        good: good,
-        opened: s.opened,
-        begun: s.begun,
-        inside: false,
-        last: 0,
-        count: s.count,
+impl Lap {
+    // The lap after a slot with no entry.
+    fn no_entry(self) -> Lap
+        ensures { result ≡ no_entry self }
+    {
+        Lap { last: None, ..self }
     }
-}
 
-// The lap after a slot with payload p.
-fn an_entry(s: Lap, p: u32, good: bool, opened: u32, begun: u32) -> Lap
-    requires { s.count ≤ 1048576 }
-    ensures { result ≡ an_entry s p good opened begun }
-{
-    Lap {
-        good: good,
-        opened: opened,
-        begun: begun,
-        inside: true,
-        last: p,
-        count: s.count + 1,
-    }
-}
-
-// One slot further, with word w.
-fn stepped(s: Lap, w: u32, t: Spans) -> Lap
-    requires { (s.opened ≤ 1048576) × (s.begun ≤ 1048576) × (s.count ≤ 1048576) }
-    ensures { result ≡ step (allowed t) s w }
-{
-    let p = w / 8;
-    let o = w % 2;
-    let fine = is_allowed(t, p);
-    let low = w % 8;
-    match low {
-        0 => no_entry(s, (w == 0) & (s.begun == s.opened)),
-        1 => an_entry(
-            s,
-            p,
-            (s.begun == s.opened) & fine,
-            s.opened + 1,
-            s.begun + 1,
-        ),
-        2..=3 => no_entry(s, false),
-        4..=5 => an_entry(s, p, (s.begun < s.opened) & fine, s.opened + o, s.begun + 1),
-        _ => an_entry(
-            s,
-            p,
-            s.inside & ((s.last <= p) & fine),
-            s.opened + o,
-            s.begun,
-        ),
-    }
-}
-
-// The first empty slot, or the number of slots.
-fn first_empty(words: &[u32]) -> usize
-    ensures { (result ≤ length words.now) × (result < length words.now → get_or words.now result 0 ≡ 0) × ((k : ℕ) → k < result → get_or words.now k 0 ≡ 0 → ⊥) }
-{
-    let n = words.len();
-    let mut i: usize = 0;
-    while i < n {
-        if words[i] == 0 {
-            return i;
+    // The lap after a slot with this payload: `occupied` addresses more are passed, and `begins` runs more have begun.
+    fn an_entry(self, payload: u32, occupied: u32, begins: u32) -> Lap
+        requires { (self.opened ≤ 1048576) × (self.begun ≤ 1048576) × (self.count ≤ 1048576) × (occupied ≤ 1) × (begins ≤ 1) }
+        ensures { result ≡ an_entry self payload occupied begins }
+    {
+        Lap {
+            opened: self.opened + occupied,
+            begun: self.begun + begins,
+            last: Some(payload),
+            count: self.count + 1,
         }
-        i = i + 1;
     }
-    i
+
+    // Whether an entry with this payload may go on the run of the slot before.
+    fn goes_on(self, payload: u32) -> bool
+        ensures { result ≡ goes_on self.last payload }
+    {
+        self.last.is_some_and(|last| last <= payload)
+    }
+
+    // One slot further, or None where this word may not stand there. The arms are those of the three low bits.
+    fn step(self, word: u32, spans: &Spans) -> Option<Lap>
+        requires { (self.opened ≤ 1048576) × (self.begun ≤ 1048576) × (self.count ≤ 1048576) }
+        ensures { result ≡ step (allowed spans.now) self word }
+    {
+        let payload = word / 8;
+        let occupied = word % 2;
+        let allowed = spans.allow(payload);
+        let waits = self.begun < self.opened;
+        match word % 8 {
+            0 => (word == 0 && self.begun == self.opened).then_some(self.no_entry()),
+            1 => (self.begun == self.opened && allowed).then_some(self.an_entry(payload, 1, 1)),
+            2..=3 => None,
+            4..=5 => (waits && allowed).then_some(self.an_entry(payload, occupied, 1)),
+            _ => (self.goes_on(payload) && allowed).then_some(self.an_entry(payload, occupied, 0)),
+        }
+    }
+}
+
+// The first empty slot.
+fn first_empty(words: &[u32]) -> Option<usize>
+    ensures some { IfSome result (λ z. slice_get words.now z ≡ Some 0) }
+    ensures none { IfNone result ((k : ℕ) → k < length words.now → slice_index words.now k ≢ 0) }
+{
+    words.iter().position(|word| *word == 0)
 }
 
 // Once round from z: the words are those of a layout of `count` entries.
-fn lap_from(words: &[u32], z: usize, count: u32, t: Spans) -> bool
+fn lap_from(words: &[u32], z: usize, count: u32, spans: &Spans) -> bool
     requires { (z < length words.now) × (1 < length words.now) × (length words.now ≤ 1048576) }
-    ensures { result ≡ fits (allowed t) count start (turn z words.now) }
+    ensures { result ≡ fits (allowed spans.now) count start (turn z words.now) }
 {
-    let n = words.len();
-    let mut s = Lap {
-        good: true,
-        opened: 0,
-        begun: 0,
-        inside: false,
-        last: 0,
-        count: 0,
-    };
-    let mut i = z;
-    let mut j: usize = 0;
-    while j < n {
-        let w = words[i];
-        s = stepped(s, w, t);
-        if s.good {
-            i = walks::around(i, 1, n);
-            j = j + 1;
-        } else {
-            return false;
+    let mut lap = Lap::default();
+    for word in words[z..].iter().chain(&words[..z]) {
+        match lap.step(*word, spans) {
+            Some(next) => lap = next,
+            None => return false,
         }
     }
-    (s.begun == s.opened) & (s.count == count)
+    lap.begun == lap.opened && lap.count == count
 }
 
 // Whether the words are the layout of `count` entries of what they decode to, all allowed.
@@ -183,21 +136,17 @@ pub fn is_table(words: &[u32], count: u32, t: Spans) -> bool
     requires { (count < length words.now) × (1 < length words.now) × (length words.now ≤ 1048576) }
     ensures { result ≡ table_right (allowed t) count words.now }
 {
-    let z = first_empty(words);
-    if z < words.len() {
-        return lap_from(words, z, count, t);
+    match first_empty(words) {
+        Some(z) => lap_from(words, z, count, &t),
+        None => false,
     }
-    false
 }
 
 // 1 if the word's payload is p, 0 if not.
-fn one_if(w: u32, p: u32) -> u32
-    ensures { (result ≡ bit (eqb p (w / 8))) × (result ≤ 1) }
+fn one_if(word: u32, p: u32) -> u32
+    ensures { (result ≡ bit (p == word / 8)) × (result ≤ 1) }
 {
-    if p == w / 8 {
-        return 1;
-    }
-    0
+    u32::from(p == word / 8)
 }
 
 // The length of a run, and how many tombstones and voids it has.
@@ -221,30 +170,25 @@ pub fn read_run(words: &[u32], c: usize, k: usize, t: u32, v: u32) -> Found
             voids: 0,
         };
     }
-    let i = walks::around(c, k, n);
-    let first = words[i];
+    let first = words[walks::around(c, k, n)];
     let mut tombstones = one_if(first, t);
     let mut voids = one_if(first, v);
-    let mut j = k + 1;
-    while j < n {
-        let i = walks::around(c, j, n);
-        let w = words[i];
-        if w / 2 % 2 == 0 {
+    // By index: the run may go over the seam.
+    for j in k + 1..n {
+        let word = words[walks::around(c, j, n)];
+        if word / 2 % 2 == 0 {
             return Found {
                 len: j - k,
-                tombstones: tombstones,
-                voids: voids,
+                tombstones,
+                voids,
             };
         }
-        let a = one_if(w, t);
-        let b = one_if(w, v);
-        tombstones = tombstones + a;
-        voids = voids + b;
-        j = j + 1;
+        tombstones += one_if(word, t);
+        voids += one_if(word, v);
     }
     Found {
-        len: j - k,
-        tombstones: tombstones,
-        voids: voids,
+        len: n - k,
+        tombstones,
+        voids,
     }
 }

@@ -11,16 +11,12 @@ pub fn insert(ws: &mut [u32], c: usize, x: u32)
     ensures { (runs : List (List ℕ)) → ws.old ≡ layout runs → suc (total runs) < length runs
         → ws.new ≡ layout (set runs c (add x (get_or runs c []))) }
 {
-    let n = ws.len();
-    let r = walks::locate(ws, c);
-    let b = r.home;
-    let f = r.from;
-    let d = r.carry;
-    let o = ws[c] % 2;
-    let u = lookup::rank(ws, c, b, f, x);
-    let k = d + u;
-    if k < n {
-        inserting::put(ws, c, k, u, o, x);
+    let run = walks::locate(ws, c);
+    let rank = lookup::rank(ws, c, run, x);
+    let k = run.carry + rank;
+    if k < ws.len() {
+        let occupied = ws[c] % 2;
+        inserting::put(ws, c, k, rank, occupied, x);
     }
 }
 
@@ -31,18 +27,13 @@ pub fn remove(ws: &mut [u32], c: usize, x: u32) -> bool
         × ((runs : List (List ℕ)) → ws.old ≡ layout runs → total runs < length runs → T (rising (get_or runs c []))
         → (result ≡ has x (get_or runs c [])) × (ws.new ≡ layout (set runs c (erase x (get_or runs c []))))) }
 {
-    let n = ws.len();
-    let s = lookup::find(ws, c, x);
-    let k = s.slot;
-    let u = s.rank;
-    let v = s.rest;
-    if s.found {
-        if k + 1 < n {
-            removing::pluck(ws, c, k, u, v);
-            return true;
+    match lookup::find(ws, c, x) {
+        Some(spot) if spot.slot + 1 < ws.len() => {
+            removing::pluck(ws, c, spot.slot, spot.rank, spot.rest);
+            true
         }
+        _ => false,
     }
-    false
 }
 
 // The word with another payload.
@@ -60,17 +51,14 @@ pub fn raise_last(ws: &mut [u32], c: usize, x: u32) -> bool
         × ((runs : List (List ℕ)) → ws.old ≡ layout runs → total runs < length runs → T (rising (get_or runs c []))
         → (result ≡ has x (get_or runs c [])) × (result ≡ true → ws.new ≡ layout (set runs c (add (suc x) (erase x (get_or runs c [])))))) }
 {
-    let n = ws.len();
-    let s = lookup::last_below(ws, c, x);
-    let k = s.slot;
-    if s.found {
-        if k < n {
-            let i = walks::around(c, k, n);
-            ws[i] = paid(x + 1, ws[i]);
-            return true;
+    match lookup::last_below(ws, c, x) {
+        Some(k) if k < ws.len() => {
+            let slot = walks::around(c, k, ws.len());
+            ws[slot] = paid(x + 1, ws[slot]);
+            true
         }
+        _ => false,
     }
-    false
 }
 
 // One entry with payload x goes from the run of c, and one with payload y comes: false where there is no x.
@@ -83,19 +71,13 @@ pub fn exchange(ws: &mut [u32], c: usize, x: u32, y: u32) -> bool
     let gone = remove(ws, c, x);
     if gone {
         insert(ws, c, y);
-        return true;
     }
-    false
+    gone
 }
 
 // Every word becomes 0.
 pub fn clear(ws: &mut [u32])
     ensures { ws.new ≡ replicate (length ws.old) 0 }
 {
-    let n = ws.len();
-    let mut i: usize = 0;
-    while i < n {
-        ws[i] = 0;
-        i += 1;
-    }
+    ws.fill(0);
 }

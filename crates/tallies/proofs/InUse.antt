@@ -36,7 +36,8 @@ more-places k last (p ∷ ps) h t =
 pub directory-20 : (k : ℕ) (places : List Place) → k ≤ 20 → T (directory_right k places) → T (directory_right 20 places)
 unfolding directory_right
 directory-20 k places h t =
-    and_both (places_right 20 5 (places_in_use places)) (every zero_place (places_not_in_use places)) (more-places k 5 (places_in_use places) h (right-used k places t))
+    and_both (places_right 20 5 (places_in_use places)) (every zero_place (places_not_in_use places))
+    (more-places k 5 (places_in_use places) h (right-used k places t))
     (right-rest k places t)
 
 -- ---- after i places, which take `at` words
@@ -45,7 +46,8 @@ pub record Walk (places : List Place) (annex : List ℕ) (i at : ℕ) : Type 0 w
   pub limits : All (RightPlace 20 5) (places_in_use (drop i places))
   pub room : at + words_taken (places_in_use (drop i places)) ≤ length annex
 
-pub walk_start : (places : List Place) (annex : List ℕ) → T (directory_right 20 places) → words_taken (places_in_use places) ≤ length annex → Walk places annex 0 0
+pub walk_start : (places : List Place) (annex : List ℕ) → T (directory_right 20 places) → words_taken (places_in_use places) ≤ length annex
+    → Walk places annex 0 0
 walk_start places annex t h = record { limits = right-places 20 places t; room = omega arith }
 
 pub none_left : (places : List Place) (i : ℕ) → length places ≤ i → places_in_use (drop i places) ≡ []

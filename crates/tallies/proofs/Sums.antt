@@ -1,4 +1,5 @@
--- The mother hashes that match the addresses of a block: the tables in use are counted one after the other, and what is counted and what the others hold make the whole.
+-- The mother hashes that match the addresses of a block: the tables in use are counted one after the other, and what is counted and what the others hold make
+-- the whole.
 use mathlib.Core.Path.{◌≡◌, refl, sym, ap, ap₂, ◌∙◌, subst}
 use mathlib.Core.Bool.{Bool, true, false, ◌&&◌}
 use mathlib.Core.List.{List, [], ◌∷◌}
@@ -95,7 +96,8 @@ module _ (places : List Place) (annex : List ℕ) (c i at total : ℕ) (s : Sum 
         ap (λ (l : List Place). mothers_of c (tables l (drop at annex))) (next-taken places i p hi ep nz)
         ∙ ap (λ (m : ℕ). m + rest)
         (sym (ex ∙ ap (λ (l : List ℕ). matching c (record { b = p.b; s = p.s; runs = decode l })) (part-is places i p hi ep nz annex at w size es))) in
-        let f : rest ≡ mothers_of c (tables ps (drop (at + size) annex)) = ap (λ (a : List ℕ). mothers_of c (tables ps a)) (rest-is places i p hi ep nz annex at w size es) in
+        let f : rest ≡ mothers_of c (tables ps (drop (at + size) annex)) =
+        ap (λ (a : List ℕ). mothers_of c (tables ps a)) (rest-is places i p hi ep nz annex at w size es) in
         record { left = omega (arith, s.left); few = omega (arith, s.few) }
 
 -- ---- for each address of a block
@@ -107,7 +109,8 @@ pub record Sums (places : List Place) (annex : List ℕ) (base n i at : ℕ) (mo
   pub good : T (annex_right (places_in_use (drop i places)) (drop at annex))
 
 module _ (places : List Place) (annex : List ℕ) (base n : ℕ) where
-  pub sums-start : (mothers : List ℕ) → length mothers ≡ block_size → AtMost 0 mothers → T (annex_right (places_in_use places) annex) → Sums places annex base n 0 0 mothers
+  pub sums-start : (mothers : List ℕ) → length mothers ≡ block_size → AtMost 0 mothers → T (annex_right (places_in_use places) annex)
+      → Sums places annex base n 0 0 mothers
   sums-start mothers e z t =
       let none : (j : ℕ) → get_or mothers j 0 ≡ 0 = λ j. omega (arith, z j) in
       record {

@@ -1,20 +1,24 @@
--- The pass over the queue: a word of the block adds to the counters of its address and to no other, and a word of another block to none, so the counters of a block are those of its addresses.
-use mathlib.Core.Path.{◌≡◌, refl, sym, ap, ◌∙◌, subst}
+-- The pass over the queue: a word of the block adds to the counters of its address and to no other, and a word of another block to none, so
+-- the counters of a block are those of its addresses.
+use mathlib.Core.Path.{◌≡◌, refl, sym, ap, ap₂, ◌∙◌}
 use mathlib.Core.Bool.{Bool, true, false, ◌||◌}
-use mathlib.Core.List.{List, [], ◌∷◌, ◌++◌, map}
+use mathlib.Core.List.{List, [], ◌∷◌, ◌++◌, map, append_assoc}
 use Prim.Native.Nat.{ℕ, zero, suc, ◌+◌, ◌-◌, ◌*◌, ◌/◌, ◌%◌, ◌≤◌, ◌<◌}
 use native.Mathlib.Omega.{arith}
 use native.Mathlib.Numerals.{add-one}
-use native.Mathlib.Decide.{ℕ_discrete}
+use native.Mathlib.Decide.{ℕ_discrete, dec_lt}
 use lib.Dec.{eqb}
 use borrow.Author.Tests.{eqb-false}
-use lib.ListN.{length, take, get_or, set, replicate, length-replicate, length-set, length-map}
-use lib.Seq.{take_all, take-suc, get_or-set_same, get_or-set_other, length-take-le}
+use lib.ListN.{length, take, drop, get_or, set, replicate, length-replicate, length-append, length-set, length-map, get_or-map}
+use lib.Seq.{drop-append_seam, take_all, take-suc, get_or-set_same, get_or-set_other, length-take-le}
 use Rattle.lists.specs.Runs.{count}
 use Rattle.lists.proofs.Tests.{no_true, is, is-yes, is-no}
 use Rattle.lists.proofs.RunLaws.{count-append}
 use Rattle.rules.specs.Sound.{naming}
-use Rattle.tallies.specs.Tally.{block_size, Tallied, Others, AtMost}
+use Rattle.std.proofs.lemmas.List.{get_or_past, map-set}
+use Rattle.tallies.specs.declared.Naming.{Naming}
+use Rattle.tallies.specs.Tally.{block_size, Tallied, Others, AtMost, Raised}
+use Rattle.tallies.specs.Namings.{words_of, evens_of, Named}
 use Rattle.tallies.proofs.Sums.{count-le}
 
 naming-append : (c : ℕ) (a b : List ℕ) → naming c (a ++ b) ≡ naming c a + naming c b
@@ -67,31 +71,50 @@ others-on base ws from q b block false eb ek o f = λ j l h e. go j l h e (ℕ_d
     go j l h e (yes z) = eqb-false b block f (eb ∙ ap (λ (x : ℕ). get_or ws x 0 / 2 / block_size) (sym z) ∙ e ∙ sym ek)
     go j l h e (no z) = o refl j l (omega arith) e
 
--- ---- the counters
-
-pub tallied-none : (n base : ℕ) → n ≡ block_size → Tallied base [] (replicate n 0) (replicate n 0)
-unfolding count naming
-tallied-none n base e =
-    record {
-      names_size = length-replicate n 0 ∙ e;
-      evens_size = length-replicate n 0 ∙ e;
-      named = λ i h. zeros n i;
-      even = λ i h. zeros n i;
-    }
-
 naming-le : (c : ℕ) (l : List ℕ) → naming c l ≤ length l
 unfolding naming
 naming-le c l = omega (arith, count-le c (map (λ (w : ℕ). w / 2) l), length-map l (λ (w : ℕ). w / 2))
 
--- no counter passes the number of words
-module _ (base : ℕ) (ws names evens : List ℕ) (q i : ℕ) (hq : q ≤ length ws) (t : Tallied base (take q ws) names evens) (hi : i < block_size) where
-  pub named-le : get_or names i 0 ≤ q
-  named-le = omega (arith, t.named i hi, naming-le (base + i) (take q ws), length-take-le q ws hq)
+-- ---- counters that rise
 
-  pub even-le : get_or evens i 0 ≤ q
-  even-le = omega (arith, t.even i hi, count-le ((base + i) * 2) (take q ws), length-take-le q ws hq)
+module _ (f g : ℕ → ℕ) (base : ℕ) (before now : List ℕ) (r : Raised f base block_size before now) where
+  raised-same : ((j : ℕ) → j < block_size → g (base + j) ≡ f (base + j)) → Raised g base block_size before now
+  raised-same e =
+      record { size = r.size; raised = λ j h. r.raised j h ∙ ap (λ (x : ℕ). get_or before j 0 + x) (sym (e j h)); others = r.others }
 
-module _ (base : ℕ) (ws names evens : List ℕ) (q : ℕ) (hb : base % block_size ≡ 0) (hq : q < length ws) (t : Tallied base (take q ws) names evens) where
+  raised-at : (i m : ℕ) → i < length before → i < block_size → ((j : ℕ) → (j ≡ i → ⊥) → g (base + j) ≡ f (base + j)) → g (base + i) ≡ f (base + i) + m
+      → Raised g base block_size before (set now i (get_or now i 0 + m))
+  raised-at i m hl hi same more =
+      record {
+        size = simp length-set r.size;
+        raised = λ j h. go j h (ℕ_discrete j i);
+        others = λ j h. get_or-set_other now i j (get_or now i 0 + m) 0 (λ z. absurd (omega arith)) ∙ r.others j h;
+      }
+    where
+      go : (j : ℕ) → j < block_size → Dec (j ≡ i) → get_or (set now i (get_or now i 0 + m)) j 0 ≡ get_or before j 0 + g (base + j)
+      go j h (yes z) =
+          let e : get_or (set now i (get_or now i 0 + m)) j 0 ≡ get_or now i 0 + m =
+          ap (λ (k : ℕ). get_or (set now i (get_or now i 0 + m)) k 0) z ∙ get_or-set_same now i (get_or now i 0 + m) 0 (omega (arith, r.size)) in
+          e ∙ (omega (arith, r.raised i hi, more)) ∙ ap (λ (k : ℕ). get_or before k 0 + g (base + k)) (sym z)
+      go j h (no z) =
+          get_or-set_other now i j (get_or now i 0 + m) 0 z ∙ r.raised j h ∙ ap (λ (x : ℕ). get_or before j 0 + x) (sym (same j z))
+
+-- ---- the words before q, and one more
+
+abbrev no_naming : Naming
+no_naming = record { words = 0; evens = 0 }
+
+named-none : (base : ℕ) (counters : List Naming) → Named base [] counters counters
+unfolding count naming
+named-none base counters = record {
+  words = record { size = refl; raised = λ j h. omega arith; others = λ j h. refl };
+  evens = record { size = refl; raised = λ j h. omega arith; others = λ j h. refl };
+}
+
+pub named-start : (base : ℕ) (ws : List ℕ) (counters : List Naming) → Named base (take 0 ws) counters counters
+named-start base ws counters = named-none base counters
+
+module _ (base : ℕ) (ws : List ℕ) (q : ℕ) (hb : base % block_size ≡ 0) (hq : q < length ws) where
   other_name : (j : ℕ) → (base + j ≡ get_or ws q 0 / 2 → ⊥) → naming (base + j) (take (q + 1) ws) ≡ naming (base + j) (take q ws)
   other_name j z =
       let o : is (base + j) (get_or ws q 0 / 2) ≡ 0 = is-no (base + j) (get_or ws q 0 / 2) z in
@@ -103,65 +126,161 @@ module _ (base : ℕ) (ws names evens : List ℕ) (q : ℕ) (hb : base % block_s
       let n = count_next ((base + j) * 2) ws q hq in
       omega (arith, n)
 
-  -- a word of another block adds to no counter
-  pub tallied-past : (get_or ws q 0 / 2 / block_size ≡ base / block_size → ⊥) → Tallied base (take (q + 1) ws) names evens
-  tallied-past z =
-      record {
-        names_size = t.names_size;
-        evens_size = t.evens_size;
-        named = λ j h. t.named j h ∙ sym (other_name j (λ x. z (same_block base (get_or ws q 0 / 2) hb j h x)));
-        even = λ j h. t.even j h ∙ sym (other-even j (λ x. z (same_block base (get_or ws q 0 / 2) hb j h x)));
-      }
+  module _ (before now : List Naming) (r : Named base (take q ws) before now) where
+    -- a word of another block adds to no counter
+    pub named-past : (get_or ws q 0 / 2 / block_size ≡ base / block_size → ⊥) → Named base (take (q + 1) ws) before now
+    named-past z = record {
+      words =
+          raised-same (λ c. naming c (take q ws)) (λ c. naming c (take (q + 1) ws)) base (words_of before) (words_of now) r.words
+          (λ j h. other_name j (λ x. z (same_block base (get_or ws q 0 / 2) hb j h x)));
+      evens =
+          raised-same (λ c. count (c * 2) (take q ws)) (λ c. count (c * 2) (take (q + 1) ws)) base (evens_of before) (evens_of now) r.evens
+          (λ j h. other-even j (λ x. z (same_block base (get_or ws q 0 / 2) hb j h x)));
+    }
 
-  -- a word of the block adds to the counters of its address, and to no other
-  module _ (i e : ℕ) (ei : i ≡ get_or ws q 0 / 2 % block_size) (ee : e ≡ 1 - get_or ws q 0 % 2) (s : get_or ws q 0 / 2 / block_size ≡ base / block_size) where
-    home : base + i ≡ get_or ws q 0 / 2
-    home = ap (λ (x : ℕ). base + x) ei ∙ in_block base (get_or ws q 0 / 2) hb s
+    module _ (i : ℕ) (hl : length before ≡ block_size) (hi : i < block_size) where
+      -- no counter passes the number of words
+      pub words-le : (m : ℕ) → AtMost m (words_of before) → (get_or now i no_naming).words ≤ m + q
+      words-le m b =
+          omega (
+            arith,
+            r.words.raised i hi,
+            b i,
+            naming-le (base + i) (take q ws),
+            length-take-le q ws (omega arith),
+            get_or-map (λ (c : Naming). c.words) now i no_naming,
+          )
 
-    small : i < block_size
-    small = omega arith
+      pub evens-le : (m : ℕ) → AtMost m (evens_of before) → (get_or now i no_naming).evens ≤ m + q
+      evens-le m b =
+          omega (
+            arith,
+            r.evens.raised i hi,
+            b i,
+            count-le ((base + i) * 2) (take q ws),
+            length-take-le q ws (omega arith),
+            get_or-map (λ (c : Naming). c.evens) now i no_naming,
+          )
 
-    name : (j : ℕ) → j < block_size → Dec (j ≡ i) → get_or (set names i (get_or names i 0 + 1)) j 0 ≡ naming (base + j) (take (q + 1) ws)
-    name j h (yes z) =
-        let g : get_or (set names i (get_or names i 0 + 1)) j 0 ≡ get_or names i 0 + 1 =
-        ap (λ (k : ℕ). get_or (set names i (get_or names i 0 + 1)) k 0) z ∙ get_or-set_same names i (get_or names i 0 + 1) 0 (omega (arith, small, t.names_size)) in
-        let o : is (base + j) (get_or ws q 0 / 2) ≡ 1 = is-yes (base + j) (get_or ws q 0 / 2) (omega (arith, home)) in
-        let u : get_or names i 0 ≡ naming (base + j) (take q ws) = ap (λ (k : ℕ). get_or names k 0) (sym z) ∙ t.named j h in
-        omega (arith, naming-next (base + j) ws q hq)
-    name j h (no z) =
-        get_or-set_other names i j (get_or names i 0 + 1) 0 z ∙ t.named j h ∙ sym (other_name j (λ x. z (omega (arith, home))))
+      -- a word of the block adds to the counters of its address, and to no other
+      module _ (e : ℕ) (ei : i ≡ get_or ws q 0 / 2 % block_size) (ee : e ≡ 1 - get_or ws q 0 % 2) (s : get_or ws q 0 / 2 / block_size ≡ base / block_size) where
+        home : base + i ≡ get_or ws q 0 / 2
+        home = ap (λ (x : ℕ). base + x) ei ∙ in_block base (get_or ws q 0 / 2) hb s
 
-    evened : (j : ℕ) → j < block_size → Dec (j ≡ i) → get_or (set evens i (get_or evens i 0 + e)) j 0 ≡ count ((base + j) * 2) (take (q + 1) ws)
-    evened j h (yes z) =
-        let g : get_or (set evens i (get_or evens i 0 + e)) j 0 ≡ get_or evens i 0 + e =
-        ap (λ (k : ℕ). get_or (set evens i (get_or evens i 0 + e)) k 0) z ∙ get_or-set_same evens i (get_or evens i 0 + e) 0 (omega (arith, small, t.evens_size)) in
-        let o : is ((base + j) * 2) (get_or ws q 0) ≡ 1 - get_or ws q 0 % 2 = bit-even (base + j) (get_or ws q 0) (omega (arith, home)) in
-        let u : get_or evens i 0 ≡ count ((base + j) * 2) (take q ws) = ap (λ (k : ℕ). get_or evens k 0) (sym z) ∙ t.even j h in
-        let n = count_next ((base + j) * 2) ws q hq in
-        g ∙ (omega (arith, n))
-    evened j h (no z) =
-        get_or-set_other evens i j (get_or evens i 0 + e) 0 z ∙ t.even j h ∙ sym (other-even j (λ x. z (omega (arith, home))))
+        pub named-on : Named base (take (q + 1) ws) before
+            (set now i (record { words = (get_or now i no_naming).words + 1; evens = (get_or now i no_naming).evens + e }))
+        named-on =
+            let o : is (base + i) (get_or ws q 0 / 2) ≡ 1 = is-yes (base + i) (get_or ws q 0 / 2) home in
+            let u : is ((base + i) * 2) (get_or ws q 0) ≡ 1 - get_or ws q 0 % 2 = bit-even (base + i) (get_or ws q 0) home in
+            let n = count_next ((base + i) * 2) ws q hq in
+            let v : Naming = record { words = (get_or now i no_naming).words + 1; evens = (get_or now i no_naming).evens + e } in
+            record {
+              words =
+                  rw (map-set (λ (c : Naming). c.words) now i v, ← get_or-map (λ (c : Naming). c.words) now i no_naming)
+                  (raised-at (λ c. naming c (take q ws)) (λ c. naming c (take (q + 1) ws)) base (words_of before) (words_of now) r.words i 1
+                  (omega (arith, length-map before (λ c. c.words))) hi (λ j z. other_name j (λ x. z (omega (arith, home))))
+                  (omega (arith, naming-next (base + i) ws q hq)));
+              evens =
+                  rw (map-set (λ (c : Naming). c.evens) now i v, ← get_or-map (λ (c : Naming). c.evens) now i no_naming)
+                  (raised-at (λ c. count (c * 2) (take q ws)) (λ c. count (c * 2) (take (q + 1) ws)) base (evens_of before) (evens_of now) r.evens i e
+                  (omega (arith, length-map before (λ c. c.evens))) hi (λ j z. other-even j (λ x. z (omega (arith, home)))) (omega (arith, n)));
+            }
 
-    pub tallied-on : (names' evens' : List ℕ) → names' ≡ set names i (get_or names i 0 + 1) → evens' ≡ set evens i (get_or evens i 0 + e) → Tallied base (take (q + 1) ws) names' evens'
-    tallied-on names' evens' en ev =
-        rw (en, ev)
-        (record {
-          names_size = simp length-set t.names_size;
-          evens_size = simp length-set t.evens_size;
-          named = λ j h. name j h (ℕ_discrete j i);
-          even = λ j h. evened j h (ℕ_discrete j i);
-        })
+pub named-all : (base : ℕ) (ws : List ℕ) (q : ℕ) (before now : List Naming) → length ws ≤ q → Named base (take q ws) before now → Named base ws before now
+named-all base ws q before now h r = rw (take_all q ws h) at r
 
--- words of other blocks, passed over together
-pub tallied-skip : (base : ℕ) (ws names evens : List ℕ) (q m : ℕ) → base % block_size ≡ 0 → q + m ≤ length ws → Others base ws q (q + m) → Tallied base (take q ws) names evens
-    → Tallied base (take (q + m) ws) names evens
-tallied-skip base ws names evens q zero hb hl o t =
-    let z : q ≡ q + 0 = omega arith in
-    subst (λ (x : ℕ). Tallied base (take x ws) names evens) z t
-tallied-skip base ws names evens q (suc m) hb hl o t =
-    let z : q + m + 1 ≡ q + suc m = omega arith in
-    let r : Tallied base (take (q + m) ws) names evens = tallied-skip base ws names evens q m hb (omega arith) (λ j l h. o j l (omega arith)) t in
-    subst (λ (x : ℕ). Tallied base (take x ws) names evens) z (tallied-past base ws names evens (q + m) hb (omega arith) r (o (q + m) (omega arith) (omega arith)))
+-- ---- words behind those that are counted
 
-pub tallied-all : (base : ℕ) (ws names evens : List ℕ) (n : ℕ) → n ≡ length ws → Tallied base (take n ws) names evens → Tallied base ws names evens
-tallied-all base ws names evens n e t = rw (take_all n ws (omega arith)) at t
+-- ---- the counters
+
+module _ (f : Naming → ℕ) (z : Naming) (e : f z ≡ 0) where
+  all-zero : (n j : ℕ) → get_or (map f (replicate n z)) j 0 ≡ 0
+  all-zero zero j = refl
+  all-zero (suc n) zero = e
+  all-zero (suc n) (suc j) = all-zero n j
+
+  all-size : (n : ℕ) → length (map f (replicate n z)) ≡ n
+  all-size n = length-map (replicate n z) f ∙ length-replicate n z
+
+pub tallied-none : (n base : ℕ) (z : Naming) → z.words ≡ 0 → z.evens ≡ 0 → n ≡ block_size
+    → Tallied base [] (words_of (replicate n z)) (evens_of (replicate n z))
+unfolding count naming
+tallied-none n base z ew ee e = record {
+  names_size = all-size (λ c. c.words) z ew n ∙ e;
+  evens_size = all-size (λ c. c.evens) z ee n ∙ e;
+  named = λ i h. all-zero (λ c. c.words) z ew n i;
+  even = λ i h. all-zero (λ c. c.evens) z ee n i;
+}
+
+module _ (base : ℕ) (seen ws : List ℕ) where
+  -- none of them is of the block
+  no_names : base % block_size ≡ 0 → Others base ws 0 (length ws) → (j : ℕ) → j < block_size → (naming (base + j) ws ≡ 0) × (count ((base + j) * 2) ws ≡ 0)
+  unfolding count naming
+  no_names = go ws
+    where
+      go : (l : List ℕ) → base % block_size ≡ 0 → Others base l 0 (length l) → (j : ℕ) → j < block_size
+          → (naming (base + j) l ≡ 0) × (count ((base + j) * 2) l ≡ 0)
+      go [] hb o j h = (refl, refl)
+      go (w ∷ l) hb o j h =
+          let r = go l hb (λ q a b. o (suc q) (omega arith) (omega arith)) j h in
+          let z : base + j ≡ w / 2 → ⊥ = λ e. o 0 (omega arith) (omega arith) (same_block base (w / 2) hb j h e) in
+          let x : is (base + j) (w / 2) ≡ 0 = is-no (base + j) (w / 2) z in
+          let y : is ((base + j) * 2) w ≡ 0 = is-no ((base + j) * 2) w (λ e. z (omega arith)) in
+          (omega (arith, r.0), omega (arith, r.1))
+
+  module _ (counters : List Naming) (t : Tallied base seen (words_of counters) (evens_of counters)) where
+    pub tallied-past : base % block_size ≡ 0 → Others base ws 0 (length ws) → Tallied base (seen ++ ws) (words_of counters) (evens_of counters)
+    tallied-past hb o = record {
+      names_size = t.names_size;
+      evens_size = t.evens_size;
+      named = λ j h. omega (arith, t.named j h, naming-append (base + j) seen ws, (no_names hb o j h).0);
+      even = λ j h. omega (arith, t.even j h, count-append ((base + j) * 2) seen ws, (no_names hb o j h).1);
+    }
+
+    pub tallied-on : (after : List Naming) → Named base ws counters after → Tallied base (seen ++ ws) (words_of after) (evens_of after)
+    tallied-on after r = record {
+      names_size = r.words.size ∙ t.names_size;
+      evens_size = r.evens.size ∙ t.evens_size;
+      named = λ j h. omega (arith, t.named j h, naming-append (base + j) seen ws, r.words.raised j h);
+      even = λ j h. omega (arith, t.even j h, count-append ((base + j) * 2) seen ws, r.evens.raised j h);
+    }
+
+    pub counters-size : length counters ≡ block_size
+    counters-size = omega (arith, t.names_size, length-map counters (λ c. c.words))
+
+    module _ (few : length seen ≤ 1048576) where
+      pub words-few : AtMost 1048576 (words_of counters)
+      words-few j = go (dec_lt j block_size)
+        where
+          go : Dec (j < block_size) → get_or (words_of counters) j 0 ≤ 1048576
+          go (yes h) = omega (arith, t.named j h, naming-le (base + j) seen)
+          go (no h) = omega (arith, get_or_past (words_of counters) j 0 (omega (arith, t.names_size)))
+
+      pub evens-few : AtMost 1048576 (evens_of counters)
+      evens-few j = go (dec_lt j block_size)
+        where
+          go : Dec (j < block_size) → get_or (evens_of counters) j 0 ≤ 1048576
+          go (yes h) = omega (arith, t.even j h, count-le ((base + j) * 2) seen)
+          go (no h) = omega (arith, get_or_past (evens_of counters) j 0 (omega (arith, t.evens_size)))
+
+-- ---- part after part of the queue: the words seen and the rest are all
+
+module _ (seen rest ws : List ℕ) (all : seen ++ rest ≡ ws) where
+  pub seen-few : length ws ≤ 1048576 → length seen ≤ 1048576
+  seen-few h = omega (arith, ap length all, length-append seen rest)
+
+  -- whole groups are seen, and the rest makes none
+  pub rest-is : length seen % 16 ≡ 0 → length rest < 16 → drop (length ws - length ws % 16) ws ≡ rest
+  rest-is g h =
+      let n : length ws - length ws % 16 ≡ length seen = omega (arith, ap length all, length-append seen rest) in
+      ap₂ (λ (k : ℕ) (l : List ℕ). drop k l) n (sym all) ∙ drop-append_seam seen rest
+
+  module _ (part rest' : List ℕ) (next : rest ≡ part ++ rest') where
+    pub seen-on : (seen ++ part) ++ rest' ≡ ws
+    seen-on = append_assoc seen part rest' ∙ ap (λ (l : List ℕ). seen ++ l) (sym next) ∙ all
+
+    pub part_few : length ws ≤ 1048576 → length part ≤ 1048576
+    part_few h = omega (arith, ap length all, ap length next, length-append seen rest, length-append part rest')
+
+pub groups-on : (seen part : List ℕ) → length seen % 16 ≡ 0 → length part ≡ 16 → length (seen ++ part) % 16 ≡ 0
+groups-on seen part g h = omega (arith, length-append seen part)

@@ -1,5 +1,5 @@
--- The walk through one annex table in the order of the addresses: its slot, the entries that wait there and the payload asked for are those of the address, and those of the next address follow
--- from them without a search.
+-- The walk through one annex table in the order of the addresses: its slot, the entries that wait there and the payload asked for are those of the address,
+-- and those of the next address follow from them without a search.
 use mathlib.Core.Path.{◌≡◌, refl, sym, ap, ap₂, ◌∙◌, subst}
 use mathlib.Core.Bool.{Bool, cond}
 use mathlib.Core.List.{List, []}

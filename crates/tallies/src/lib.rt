@@ -1,16 +1,24 @@
 #![tactic(auto)]
 
 // The counters of a block of addresses: queue words that name each address, and mother hashes that match it.
-ghost use Rattle.std.specs.Prelude.{◌≡◌, false, [], ◌+◌, ◌-◌, ◌/◌, ◌%◌, ◌^◌, ◌≤◌, ◌<◌, T, length, take};
+ghost use Rattle.std.specs.Prelude.{◌≡◌, false, [], ◌+◌, ◌-◌, ◌*◌, ◌/◌, ◌%◌, ◌^◌, ◌≤◌, ◌<◌, T, length};
 ghost use Rattle.directory.specs.Places.{places_in_use, directory_right, words_taken};
 ghost use Rattle.rules.specs.Tables.{matching, tables};
 ghost use Rattle.rules.specs.Sound.{annex_right};
 ghost use Rattle.annex.specs.Stored.{table_of};
 ghost use Rattle.sound.specs.Reading.{Laid};
 ghost use Rattle.tallies.specs.Tally.{block_size, Tallied, Others, AtMost, Raised, Stored};
+ghost use Rattle.tallies.specs.Namings.{words_of, evens_of, Named};
 
 // How many addresses a block has. One pass over the queue counts the words of one block, in counters on the stack.
 pub const BLOCK: usize = 8192;
+
+// How many queue words name an address, and how many of them are even.
+#[derive(Clone, Copy, Default)]
+pub struct Naming {
+    pub words: u32,
+    pub evens: u32,
+}
 
 // The number of the block of address a.
 fn block_of(a: u32) -> u32
@@ -32,65 +40,49 @@ fn even(w: u32) -> u32
     1 - w % 2
 }
 
-// Whether one of the words from..to names an address of the block. There is no branch in the loop, so that the compiler can test several words at once.
-fn names_block(queue: &[u32], from: usize, to: usize, base: u32) -> bool
-    requires { (from ≤ to) × (to ≤ length queue.now) × (length queue.now ≤ 1048576) }
-    ensures { result ≡ false → Others base queue.now from to }
+// Whether one of the words names an address of the block.
+fn names_block(words: &[u32], base: u32) -> bool
+    ensures { result ≡ false → Others base words.now 0 (length words.now) }
 {
     let block = block_of(base);
-    let mut any = false;
-    let mut q = from;
-    while q < to {
-        let b = block_of(queue[q] / 2);
-        any = any | (b == block);
-        q = q + 1;
+    let mut found = false;
+    // No `any`, which stops at the first: without a branch the compiler can test several words at once.
+    for word in words {
+        found |= block_of(*word / 2) == block;
     }
-    any
+    found
 }
 
-// Adds the words from..to to the counters of the block.
-fn tally_words(
-    queue: &[u32],
-    from: usize,
-    to: usize,
-    base: u32,
-    names: &mut [u32],
-    evens: &mut [u32],
-)
-    requires { (from ≤ to) × (to ≤ length queue.now) × (length queue.now ≤ 1048576) × (base % block_size ≡ 0)
-        × Tallied base (take from queue.now) names.old evens.old }
-    ensures { Tallied base (take to queue.now) names.new evens.new }
+// Adds the words to the counters of the block.
+fn tally_words(words: &[u32], base: u32, counters: &mut [Naming])
+    requires { (length words.now ≤ 1048576) × (base % block_size ≡ 0) × (length counters.old ≡ block_size)
+        × AtMost 1048576 (words_of counters.old) × AtMost 1048576 (evens_of counters.old) }
+    ensures { Named base words.now counters.old counters.new }
 {
     let block = block_of(base);
-    let mut q = from;
-    while q < to {
-        let w = queue[q];
-        let b = block_of(w / 2);
-        if b == block {
-            let i = place_of(w / 2);
-            let e = even(w);
-            names[i] = names[i] + 1;
-            evens[i] = evens[i] + e;
+    for word in words {
+        let address = *word / 2;
+        if block_of(address) == block {
+            let counter = &mut counters[place_of(address)];
+            counter.words += 1;
+            counter.evens += even(*word);
         }
-        q = q + 1;
     }
 }
 
 // How many queue words name each address of the block, and how many of them are even. Most words are of other blocks, and are passed over 16 at a time.
-pub fn tally_block(queue: &[u32], base: u32, names: &mut [u32], evens: &mut [u32])
-    requires { (length queue.now ≤ 1048576) × (base % block_size ≡ 0) × Tallied base [] names.old evens.old }
-    ensures { Tallied base queue.now names.new evens.new }
+pub fn tally_block(queue: &[u32], base: u32, counters: &mut [Naming])
+    requires { (length queue.now ≤ 1048576) × (base % block_size ≡ 0) × Tallied base [] (words_of counters.old) (evens_of counters.old) }
+    ensures { Tallied base queue.now (words_of counters.new) (evens_of counters.new) }
 {
-    let n = queue.len();
-    let mut q: usize = 0;
-    while q + 16 <= n {
-        let end = q + 16;
-        if names_block(queue, q, end, base) {
-            tally_words(queue, q, end, base, names, evens);
+    let groups = queue.chunks_exact(16);
+    let rest = groups.remainder();
+    for words in groups {
+        if names_block(words, base) {
+            tally_words(words, base, counters);
         }
-        q = end;
     }
-    tally_words(queue, q, n, base, names, evens);
+    tally_words(rest, base, counters);
 }
 
 // How many entries wait on arrival at the next address, where k wait here and the run has len.
@@ -98,35 +90,29 @@ pub fn onward(k: usize, len: usize) -> usize
     requires { (k ≤ 1048576) × (len ≤ 1048576) }
     ensures { result ≡ k + len - 1 }
 {
-    if k + len == 0 {
-        return 0;
-    }
-    k + len - 1
+    (k + len).saturating_sub(1)
 }
 
-// Adds to the counters of the block's first n addresses how many mother hashes of one annex table match each. The runs are read in the order of the addresses, each
-// from where the one before ends; the payload changes where the table begins anew.
+// Adds to the counters of the block's first n addresses how many mother hashes of one annex table match each. The runs are read in the order of the addresses,
+// each from where the one before ends; the payload changes where the table begins anew.
 fn tally_table(part: &[u32], b: u32, s: u32, base: u32, n: usize, mothers: &mut [u32])
     requires { (3 ≤ s) × (s < b) × (b ≤ 20) × (length part.now ≡ 2 ^ s) × Laid part.now × (base ≤ 1048576) × (n ≤ block_size) × (length mothers.old ≡ block_size)
         × AtMost 15728640 mothers.old }
     ensures { Raised (λ c. matching c (table_of b s part.now)) base n mothers.old mothers.new }
 {
-    let size = part.len();
+    // By index: the slot, the payload and the counter go on together, and only the first n counters are the block's.
     let mut a = annex::hash_slot(s, base);
     let mut p = annex::hash_entry(b, s, base);
-    let first = walks::locate(part, a);
-    let mut k = first.carry;
-    let mut i: usize = 0;
-    while i < n {
+    let mut k = walks::locate(part, a).carry;
+    for i in 0..n {
         // A run is read for two payloads, which here are the same.
         let run = sound::read_run(part, a, k, p, p);
-        mothers[i] = mothers[i] + run.voids;
+        mothers[i] += run.voids;
         k = onward(k, run.len);
-        a = walks::around(a, 1, size);
-        i = i + 1;
+        a = walks::after(a, part.len());
         if a == 0 {
-            let c = base + i as u32;
-            p = annex::hash_entry(b, s, c);
+            let next = base + i as u32 + 1;
+            p = annex::hash_entry(b, s, next);
         }
     }
 }
@@ -143,18 +129,14 @@ pub fn tally_mothers(
         × (base ≤ 1048576) × (n ≤ block_size) × (length mothers.old ≡ block_size) × AtMost 0 mothers.old }
     ensures { Stored base n (tables (places_in_use places) annex.now) mothers.new }
 {
+    // The directory comes by value beside the annex words, as the document has it; its tables follow one another, so the offset goes along.
     let mut at: usize = 0;
-    let mut i: usize = 0;
-    while i < 15 {
-        let p = places[i];
-        if p.b == 0 {
+    for place in places {
+        if place.b == 0 {
             return;
         }
-        let size = directory::table_words(p.s);
-        let end = at + size;
-        let part = &annex[at..end];
-        tally_table(part, p.b, p.s, base, n, mothers);
+        let end = at + directory::table_words(place.s);
+        tally_table(&annex[at..end], place.b, place.s, base, n, mothers);
         at = end;
-        i = i + 1;
     }
 }

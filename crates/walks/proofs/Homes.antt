@@ -20,7 +20,8 @@ module _ (ws : List ℕ) (c v : ℕ) (hc : c < length ws) (h : 1 < length ws) (e
 
   none_left : (steps (lefts ws c) ≡ 0) × (passed (lefts ws c) ≡ 0)
   none_left =
-      left-stop (lefts ws c) 0 0 v (omega (arith, lefts-length ws c)) (ev ∙ seen ws c 0 (length ws) c hc (omega arith) refl self) (left-start (lefts ws c)) (omega arith)
+      left-stop (lefts ws c) 0 0 v (omega (arith, lefts-length ws c))
+      (ev ∙ seen ws c 0 (length ws) c hc (omega arith) refl self) (left-start (lefts ws c)) (omega arith)
 
   home : c ≡ home_of (length ws) c 0
   unfolding home_of

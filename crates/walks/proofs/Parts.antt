@@ -6,11 +6,30 @@ use Prim.Native.Nat.{ℕ, zero, suc, ◌+◌, ◌-◌, ◌/◌, ◌%◌, ◌≤�
 use native.Mathlib.Omega.{arith}
 use native.Mathlib.Numerals.{add-one}
 use lib.ListN.{length, take, drop, get_or, length-reverse, length-map, length-drop, drop_of_length-le, get_or-map}
-use lib.Seq.{take_all, take-suc, take-length, drop-cons, length-take-le}
+use Rattle.std.proofs.lemmas.List.{get_or-take, get_or-drop}
+use lib.Seq.{take_all, take-suc, drop-cons, length-take-le}
 use Rattle.lists.specs.Lists.{sum}
 use Rattle.layout.specs.Machine.{Entry, start, more}
 use Rattle.layout.specs.Decode.{entry, entry_of, stop, steps, first_mark, passed, skip}
 use Rattle.layout.specs.Moves.{lefts, rights, is_start}
+use Rattle.walks.specs.Stretch.{stretch}
+
+-- ---- a part
+
+pub stretch-first : (ws : List ℕ) (end : ℕ) → stretch 0 end ws ≡ take end ws
+stretch-first ws end = let all : end - 0 ≡ end = omega arith in ap (λ (k : ℕ). take k ws) all
+
+pub stretch-last : (ws : List ℕ) (from end : ℕ) → end ≡ length ws → stretch from end ws ≡ drop from ws
+stretch-last ws from end e = take_all (end - from) (drop from ws) (omega (arith, length-drop from ws))
+
+module _ (ws : List ℕ) (from end : ℕ) (h : end ≤ length ws) where
+  pub stretch-length : length (stretch from end ws) ≡ end - from
+  stretch-length = length-take-le (end - from) (drop from ws) (omega (arith, length-drop from ws))
+
+  pub stretch-word : (i : ℕ) → from ≤ i → i < end → get_or ws i 0 ≡ get_or (stretch from end ws) (i - from) 0
+  stretch-word i f e =
+      let there : from + (i - from) ≡ i = omega arith in
+      sym (get_or-take (end - from) (drop from ws) (i - from) 0 (omega arith) ∙ get_or-drop from ws (i - from) 0 ∙ ap (λ (j : ℕ). get_or ws j 0) there)
 
 -- ---- to the left
 
@@ -23,14 +42,6 @@ pub record Homing (l : List ℕ) (i m : ℕ) : Type 0 where
   pub walk : steps (reverse l) + i ≡ length l + steps (reverse (take i l))
   pub runs : marks (reverse l) ≡ m + marks (reverse (take i l))
   pub few : m + i ≤ length l
-
-pub homing-start : (l : List ℕ) → Homing l (length l) 0
-homing-start l =
-    record {
-      walk = omega (arith, ap (λ (t : List ℕ). steps (reverse t)) (take-length l));
-      runs = omega (arith, ap (λ (t : List ℕ). marks (reverse t)) (take-length l));
-      few = omega arith;
-    }
 
 module _ (l : List ℕ) (i j m w b : ℕ) (p : Homing l i m) (ej : i ≡ suc j) (h : j < length l) (e : w ≡ get_or l j 0) (eb : b ≡ w % 2) where
   cut : reverse (take i l) ≡ w ∷ reverse (take j l)
@@ -96,8 +107,8 @@ far (w ∷ a) b h = go (w / 4 % 2) h (far a b)
         (omega (arith, r.0), omega (arith, r.1))
 
 -- the circle to the left of c, in its two parts: own is the occupied bit of c, s and m are what the first part gives
-module _ (ws : List ℕ) (c own s m : ℕ) (hc : c < length ws) (eo : own ≡ get_or ws c 0 % 2) (part : List ℕ) (ep : part ≡ take (c + 1) ws) (es : steps (reverse part) ≡ s)
-    (em : marks (reverse part) ≡ m) where
+module _ (ws : List ℕ) (c own s m : ℕ) (hc : c < length ws) (eo : own ≡ get_or ws c 0 % 2) (part : List ℕ) (ep : part ≡ take (c + 1) ws)
+    (es : steps (reverse part) ≡ s) (em : marks (reverse part) ≡ m) where
   parts : (rest : List ℕ) → rest ≡ drop (c + 1) ws → lefts ws c ≡ reverse part ++ reverse rest
   parts rest er =
       reverse-append (drop (suc c) ws) (take (suc c) ws) ∙ ap (λ (k : ℕ). reverse (take k ws) ++ reverse (drop k ws)) (sym (add-one c))
@@ -112,9 +123,6 @@ module _ (ws : List ℕ) (c own s m : ℕ) (hc : c < length ws) (eo : own ≡ ge
 
   first : first_mark (lefts ws c) ≡ own
   first = ap first_mark (parts (drop (c + 1) ws) refl ∙ ap (λ (t : List ℕ). t ++ reverse (drop (c + 1) ws)) head) ∙ sym eo
-
-  pub own-counted : own ≤ m
-  own-counted = omega (arith, em, ap first_mark head, eo)
 
   pub home-near : s ≤ c → (steps (lefts ws c) ≡ s) × (passed (lefts ws c) ≡ m - own)
   home-near h =
@@ -135,9 +143,6 @@ module _ (ws : List ℕ) (c own s m : ℕ) (hc : c < length ws) (eo : own ≡ ge
 pub record Skipping (ws : List ℕ) (goal k togo : ℕ) : Type 0 where
   pub place : skip goal (map entry ws) ≡ k + skip togo (drop k (map entry ws))
   pub rest : goal - sum is_start (map entry ws) ≡ togo - sum is_start (drop k (map entry ws))
-
-pub skipping-start : (ws : List ℕ) (goal : ℕ) → Skipping ws goal 0 goal
-skipping-start ws goal = record { place = omega arith; rest = refl }
 
 module _ (ws : List ℕ) (goal k togo w s : ℕ) (p : Skipping ws goal k togo) (h : k < length ws) (e : w ≡ get_or ws k 0) (es : s ≡ 1 - w / 2 % 2) where
   after : List Entry
@@ -185,7 +190,8 @@ module _ (ws : List ℕ) (goal k togo w s : ℕ) (p : Skipping ws goal k togo) (
           let d : t ≡ t - s = omega arith in
           ap (λ (j : ℕ). k + suc (skip j after)) d
 
-pub skipping-end : (ws : List ℕ) (goal k togo : ℕ) → Skipping ws goal k togo → length ws ≤ k → (skip goal (map entry ws) ≡ k) × (togo ≡ goal - sum is_start (map entry ws))
+pub skipping-end : (ws : List ℕ) (goal k togo : ℕ) → Skipping ws goal k togo → length ws ≤ k
+    → (skip goal (map entry ws) ≡ k) × (togo ≡ goal - sum is_start (map entry ws))
 skipping-end ws goal k togo p h =
     let z : drop k (map entry ws) ≡ [] = drop_of_length-le (map entry ws) {i = k} (omega (arith, length-map ws entry)) in (
       p.place ∙ ap (λ (t : List Entry). k + skip togo t) z ∙ (unfold skip in omega arith),
@@ -224,12 +230,8 @@ module _ (ws : List ℕ) (b m s : ℕ) (hb : b < length ws) (part : List ℕ) (e
   seek-near h =
       ap (skip m) (parts' (take b ws) refl) ∙ skip-near m (map entry part) (map entry (take b ws)) (omega (arith, size', es)) ∙ es
 
-  pub seek-far : length ws - b ≤ s → (rest : List ℕ) → rest ≡ take b ws → (togo s' : ℕ) → togo ≡ m - sum is_start (map entry part) → skip togo (map entry rest) ≡ s'
-      → skip m (rights ws b) ≡ length ws - b + s'
+  pub seek-far : length ws - b ≤ s → (rest : List ℕ) → rest ≡ take b ws → (togo s' : ℕ) → togo ≡ m - sum is_start (map entry part)
+      → skip togo (map entry rest) ≡ s' → skip m (rights ws b) ≡ length ws - b + s'
   seek-far h rest er togo s' et es' =
       ap (skip m) (parts' rest er) ∙ skip-far m (map entry part) (map entry rest) (omega (arith, size', es))
       ∙ ap₂ ◌+◌ size' (ap (λ (t : ℕ). skip t (map entry rest)) (sym et) ∙ es')
-
--- the part of a list from b on, as the code cuts it out
-pub tail : {A : Type 0} (b : ℕ) (l : List A) → take (length l - b) (drop b l) ≡ drop b l
-tail b l = take_all (length l - b) (drop b l) (omega (arith, length-drop b l))

@@ -38,12 +38,13 @@ remove-requires c =
     let b = size-8 _ r.s_low in
     omega (arith, l, c.hash_slot-slot.ensures.1)
 
-pub overflow_sub-p : goal.overflow_sub-p
-overflow_sub-p c = some _ _ _ _ c.requires
+pub overflow_sub-place : goal.overflow_sub-place
+overflow_sub-place c = omega (arith, some _ _ _ _ c.requires)
 
 pub with_count-requires : goal.with_count-requires
 with_count-requires c = inside-15 _ _ (search rules) c.requires.inside
 
 pub returns : goal.returns
 returns c =
-    gone _ _ _ _ c.requires _ _ _ c.words_taken-at.ensures.0 c.table_words.ensures.0 refl _ _ c.hash_slot-slot.ensures.0 c.hash_entry-entry.ensures _ _ c.remove.ensures.1 _ c.with_count.ensures
+    gone _ _ _ _ c.requires _ _ _ c.words_taken-at.ensures.0 c.table_words.ensures.0 refl _ _ c.hash_slot-slot.ensures.0 c.hash_entry-entry.ensures _ _
+    c.remove.ensures.1 _ c.with_count.ensures

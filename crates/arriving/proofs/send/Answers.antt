@@ -1,39 +1,50 @@
--- Each return is one kind of entry: a tombstone gives nothing, a void two entries, any other entry one.
-use Prim.Native.Nat.{◌≤◌}
+-- Each arm is one kind of entry: a tombstone gives nothing, a void two entries, any other entry one.
+use Prim.Native.Nat.{◌≤◌, ◌<◌}
+use mathlib.Core.Path.{◌≡◌}
 use native.Mathlib.Omega.{arith}
 use borrow.Author.Rules.{rules}
 use Rattle.slots.proofs.PayloadLaws.{rest_le}
 use Rattle.arriving.proofs.Loops.{sent-none, sent-void, sent-low, sent-high}
+use Rattle.arriving.proofs.Payloads.{void-small}
 use Rattle.arriving.proofs.send.Goals as goal
+use Rattle.arriving.proofs.send.Goals.{then-f-eq0, else-f-eq0}
 
-pub returns-then-m-eq0 : goal.returns-then-m-eq0
-returns-then-m-eq0 c =
-    let a = c.args in
-    sent-none a.w a.v a.n a.c a.p _ c.rest_of-m.ensures _ c.if-m-eq0.true
+pub insert-requires : goal.insert-requires
+insert-requires c =
+    let small : c.void_of-void.result < 536870912 = void-small _ _ (omega arith) (omega arith) c.void_of-void.ensures in
+    search rules
 
-pub returns-then-m-eq1 : goal.returns-then-m-eq1
-returns-then-m-eq1 c =
-    let a = c.args in
-    sent-void a.w a.v a.n a.c a.p _ c.rest_of-m.ensures _ _ _ _ c.if-m-eq1.true c.void_at-x.ensures.0 c.insert.ensures c.insert-then-m-eq1.ensures
+pub insert-requires-in-1 : goal.insert-requires-in-1
+insert-requires-in-1 c =
+    let small : c.void_of-void.result < 536870912 = void-small _ _ (omega arith) (omega arith) c.void_of-void.ensures in
+    search rules
 
 pub fingerprint-f-requires : goal.fingerprint-f-requires
-fingerprint-f-requires c =
-    let a = c.args in
-    let h : c.rest_of-m.result ≤ a.w = omega (arith, c.rest_of-m.ensures, rest_le a.w a.p) in
-    search rules
+fingerprint-f-requires c = (omega arith, omega (arith, c.rest_of.ensures, rest_le c.args.w c.args.p))
 
-pub shorter-x-requires : goal.shorter-x-requires
-shorter-x-requires c =
-    let a = c.args in
-    let h : c.rest_of-m.result ≤ a.w = omega (arith, c.rest_of-m.ensures, rest_le a.w a.p) in
-    search rules
+pub shorter-requires : goal.shorter-requires
+shorter-requires c =
+    let h : c.rest_of.result ≤ c.args.w = omega (arith, c.rest_of.ensures, rest_le c.args.w c.args.p) in
+    (omega arith, omega arith, omega arith, c.fingerprint-f.ensures.1)
 
-pub returns-then-f-eq0 : goal.returns-then-f-eq0
-returns-then-f-eq0 c =
+pub returns-in-0 : goal.returns-in-0
+returns-in-0 c =
     let a = c.args in
-    sent-low a.w a.v a.n a.c a.p _ c.rest_of-m.ensures _ _ c.if-m-eq0.false c.if-m-eq1.false c.fingerprint-f.ensures.0 c.shorter-x.ensures.0 _ _ c.if-f-eq0.true c.insert-then-f-eq0.ensures
+    sent-none a.w a.v a.n a.c a.p _ c.rest_of.ensures _ c.in-0.is
 
-pub returns : goal.returns
-returns c =
+pub returns-in-1 : goal.returns-in-1
+returns-in-1 c =
     let a = c.args in
-    sent-high a.w a.v a.n a.c a.p _ c.rest_of-m.ensures _ _ c.if-m-eq0.false c.if-m-eq1.false c.fingerprint-f.ensures.0 c.shorter-x.ensures.0 _ _ c.if-f-eq0.false c.insert-2.ensures
+    sent-void a.w a.v a.n a.c a.p _ c.rest_of.ensures _ _ _ _ c.in-1.is c.void_of-void.ensures c.insert.ensures c.insert-in-1.ensures
+
+pub returns-after-f-eq0 : goal.returns-after-f-eq0
+returns-after-f-eq0 c =
+    let a = c.args in
+    let f = c.fingerprint-f.ensures.0 in
+    let x = c.shorter.ensures.0 in
+    let m0 : c.rest_of.result ≡ 0 → ⊥ = λ z. omega arith in
+    let m1 : c.rest_of.result ≡ 1 → ⊥ = λ z. omega arith in
+    elim c.if-f-eq0.branch [
+      | then-f-eq0 w ↦ sent-low a.w a.v a.n a.c a.p _ c.rest_of.ensures _ _ m0 m1 f x _ _ w.if-f-eq0.true (rw w.address-is at c.insert-in_default.ensures)
+      | else-f-eq0 w ↦ sent-high a.w a.v a.n a.c a.p _ c.rest_of.ensures _ _ m0 m1 f x _ _ w.if-f-eq0.false (rw w.address-is at c.insert-in_default.ensures)
+    ]

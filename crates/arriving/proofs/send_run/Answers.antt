@@ -1,52 +1,29 @@
--- The invariant: the halves of the entries passed have arrived, and `used` counts them. At the end of the run these are all.
-use mathlib.Core.Path.{refl, ap, ◌∙◌}
-use Prim.Native.Nat.{◌^◌, ◌≤◌, ◌<◌}
+-- The halves of the entries passed have arrived, and `used` counts them. At the end of the run these are all.
 use native.Mathlib.Omega.{arith}
-use lib.ListN.{length}
-use borrow.Author.Rules.{rules}
-use Rattle.layout.specs.Decode.{run_at}
-use Rattle.layout.proofs.Searches.{true-lt, false-le}
-use Rattle.arriving.proofs.Loops.{run_short, run-start, run_end, run-count, arrive-start, arrive-again, arrive-end}
+use lib.ListN.{length-append}
+use mathlib.Core.List.{List, [], ◌∷◌}
+use Prim.Native.Nat.{ℕ}
+use Rattle.std.specs.Iterator.{YieldsFirst}
+use Rattle.std.proofs.lemmas.Iterator.{YieldsList}
+use Rattle.std.proofs.lemmas.Iterator.Consumers.{YieldsList-from_first, YieldsList-turn}
+use Rattle.arriving.proofs.Loops.{run-start, run-count, arrive-start, arrive-again}
 use Rattle.arriving.proofs.send_run.Goals as goal
 
-pub loop-t-init : goal.loop-t-init
-loop-t-init c =
-    (omega arith, omega arith, omega arith, refl, run-start _ (run_at c.args.main.now c.args.c), arrive-start _ (run_at c.args.main.now c.args.c) _)
+pub loop-p-init : goal.loop-p-init
+loop-p-init c = (omega arith, run-start _, arrive-start _ c.args.second.now)
 
-pub send-more-requires : goal.send-more-requires
-send-more-requires c =
-    let a = c.args in
-    let g = c.requires in
-    let l = c.loop-t in
-    let h : c.entry_in_run-e.result.payload < 2 ^ a.w = omega (arith, c.entry_in_run-e.ensures.1, g.4 a.c c.loop-t.t g.0) in
-    search rules
+pub overflow_add-used : goal.overflow_add-used
+overflow_add-used c =
+    let l = c.loop-p in
+    let run : YieldsList (YieldsFirst (λ (rest : List ℕ). rest)) (λ p. p) c.into_iter-p-iterator.result c.entries_of-p-items.result =
+    YieldsList-from_first (λ p. p) (λ rest. rest) _ cc in
+    omega (arith, (YieldsList-turn run l.yielded _ l.yielded_by _ _ _ c.in-Some.is c.next.ensures.steps).0, c.send-used.ensures.few)
 
-pub returns-else-e : goal.returns-else-e
-returns-else-e c =
-    let a = c.args in
-    let l = c.loop-t in
-    let h = false-le _ _ _ c.entry_in_run-e.ensures.0 c.if-e.false in
-    (arrive-end _ _ l.t _ _ h l.invariant.5, l.invariant.4 ∙ ap length (run_end _ (run_at a.main.now a.c) l.t h))
-
-pub loop-t-preserved : goal.loop-t-preserved
-loop-t-preserved c =
-    let a = c.args in
-    let l = c.loop-t in
-    let e = c.entry_in_run-e.ensures in
-    let run = run_at a.main.now a.c in
-    let h : l.t < length run = true-lt _ _ _ e.0 c.if-e.true in (
-      omega arith,
-      omega arith,
-      omega (arith, c.send-more.ensures.few),
-      search rules,
-      run-count _ run l.t _ _ _ h e.1 l.invariant.4 c.send-more.ensures.counted,
-      arrive-again _ run l.t _ _ _ _ h e.1 l.invariant.5 c.send-more.ensures.arrived,
+pub loop-p-preserved : goal.loop-p-preserved
+loop-p-preserved c =
+    let l = c.loop-p in
+    let s = c.send-used.ensures in (
+      omega (arith, length-append l.yielded (c.in-Some.p ∷ []), s.few),
+      run-count _ l.yielded c.in-Some.p l.used _ l.invariant.1 s.counted,
+      arrive-again _ l.yielded c.in-Some.p _ _ _ l.invariant.2 s.arrived,
     )
-
-pub returns : goal.returns
-returns c =
-    let a = c.args in
-    let l = c.loop-t in
-    let r = c.locate-r in
-    let h : length (run_at a.main.now a.c) ≤ l.t = omega (arith, run_short a.main.now a.c r.result.home r.result.from c.requires.0 r.ensures.3) in
-    (arrive-end _ _ l.t _ _ h l.invariant.5, l.invariant.4 ∙ ap length (run_end _ (run_at a.main.now a.c) l.t h))

@@ -1,6 +1,6 @@
--- The invariant: the halves of the addresses passed have arrived in an empty table. At the end they make the doubled runs.
+-- The halves of the addresses passed have arrived in an empty table. At the end they make the doubled runs.
 use mathlib.Core.Path.{◌≡◌}
-use Prim.Native.Nat.{◌+◌, ◌-◌, ◌≤◌}
+use Prim.Native.Nat.{◌+◌}
 use lib.ListN.{length, take, replicate}
 use Rattle.layout.specs.Decode.{decode}
 use Rattle.arriving.specs.Arrivals.{Arrived, of_runs, halves}
@@ -8,8 +8,5 @@ use Rattle.arriving.proofs.write_second.Given as goal
 
 abbrev pub invariant-loop-c : goal.invariant-loop-c
 invariant-loop-c l =
-    (l.c ≤ l.n) × (length l.second ≡ l.n + l.n) × (l.used ≡ length (of_runs (halves l.w l.v l.n) 0 (take l.c (decode l.main))))
-    × Arrived (replicate (l.n + l.n) 0) l.second (of_runs (halves l.w l.v l.n) 0 (take l.c (decode l.main)))
-
-abbrev pub decreases-loop-c : goal.decreases-loop-c
-decreases-loop-c l = l.n - l.c
+    (l.used ≡ length (of_runs (halves l.w l.v (length l.main)) 0 (take l.c (decode l.main))))
+    × Arrived (replicate (length l.main + length l.main) 0) l.second (of_runs (halves l.w l.v (length l.main)) 0 (take l.c (decode l.main)))

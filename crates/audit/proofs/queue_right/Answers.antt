@@ -1,18 +1,14 @@
--- After i words, those that are left name addresses below 2^k exactly if all do.
-use mathlib.Core.Path.{refl}
-use native.Mathlib.Omega.{arith}
+-- `all` is the test of each word.
 use borrow.Author.Rules.{rules}
-use Rattle.audit.proofs.Wholes.{queue-on, queue-off, queue-end}
+use lib.Dec.{ltb}
+use Rattle.std.proofs.Common.{◌/◌, tests}
+use Rattle.std.proofs.lemmas.Iterator.{YieldsList-from_slice}
+use Rattle.std.proofs.lemmas.Iterator.Search.{all_from_yields_List}
+use Rattle.audit.proofs.Wholes.{queue-test}
 use Rattle.audit.proofs.queue_right.Goals as goal
 
-pub loop-i-init : goal.loop-i-init
-loop-i-init c = (omega arith, refl)
-
-pub loop-i-preserved : goal.loop-i-preserved
-loop-i-preserved c = (omega arith, search (rules, queue-on))
-
-pub returns-else-a-end : goal.returns-else-a-end
-returns-else-a-end c = search (rules, queue-off)
-
 pub returns : goal.returns
-returns c = search (rules, queue-end)
+returns c =
+    queue-test c.args.queue.now c.args.k c.pow2-end.result c.all.result c.pow2-end.ensures.0
+    (all_from_yields_List (λ w. ltb (w / 2) c.pow2-end.result) _ _ _ c.all.ensures.ran (YieldsList-from_slice c.args.queue.now cc)
+    (λ x b q k. search (rules, tests)))

@@ -6,7 +6,9 @@ use Rattle.tallies.proofs.Tallies.{tallied-none, none-raised}
 use Rattle.counts.proofs.block_right.Goals as goal
 
 pub tally_block-requires : goal.tally_block-requires
-tally_block-requires c = (search rules, search rules, tallied-none block_size _ refl)
+tally_block-requires c =
+    let z = c.default-queued in
+    (search rules, search rules, tallied-none block_size _ z.result z.ensures.0 z.ensures.1 refl)
 
 pub tally_mothers-requires : goal.tally_mothers-requires
 tally_mothers-requires c = (search rules, search rules, search rules, search rules, search rules, refl, none-raised block_size)

@@ -1,54 +1,43 @@
--- The invariant: m is the number of new mother hashes of the entries passed. At the end of the run these are all.
-use mathlib.Core.Path.{◌≡◌, sym, ap, ◌∙◌, subst}
-use Prim.Native.Nat.{ℕ, ◌+◌, ◌^◌, ◌≤◌, ◌<◌}
-use native.Mathlib.Omega.{arith}
-use lib.ListN.{length, take}
-use borrow.Author.Rules.{rules}
+-- The entries that become void are those that the definition takes.
+use Rattle.std.proofs.Common.{◌≡◌, ℕ, List, ◌^◌, length, get_or, rules, tests, ap, ◌∙◌, inl, arith}
+use lib.Dec.{eqb}
+use Rattle.std.proofs.lemmas.Iterator.Consumers.{YieldsList-from_first, YieldsList-from_filter, YieldsList-at, count_from_yields_List}
+use Rattle.std.proofs.lemmas.Iterator.Adapters.{serves_from_places}
+use Rattle.std.proofs.lemmas.List.{get_or_default}
+use Rattle.std.specs.Prelude.{filter}
+use Rattle.slots.specs.Payload.{rest_of}
 use Rattle.layout.specs.Decode.{run_at}
-use Rattle.layout.proofs.Searches.{true-lt, false-le}
-use Rattle.arriving.specs.Arrivals.{of_run}
-use Rattle.arriving.proofs.Loops.{run_short, run-start, run_end}
-use Rattle.doubling.specs.NewHashes.{new_hash}
-use Rattle.doubling.proofs.Loops.{count_yes, count_no}
+use Rattle.doubling.proofs.Loops.{hashes-counted, filter-few}
 use Rattle.doubling.proofs.count_in.Goals as goal
-use Rattle.doubling.proofs.count_in.Goals.{then-l-eq2, else-l-eq2}
+use Rattle.doubling.proofs.count_in.Goals.{After-count}
 
-pub loop-t-init : goal.loop-t-init
-loop-t-init c =
-    (omega arith, omega arith, omega arith, λ k. run-start _ (run_at c.args.main.now c.args.c))
-
-pub rest_of-l-requires : goal.rest_of-l-requires
-rest_of-l-requires c =
-    let a = c.args in
-    let g = c.requires in
-    let h : c.entry_in_run-e.result.payload < 2 ^ a.w = omega (arith, c.entry_in_run-e.ensures.1, g.3 a.c c.loop-t.t g.0) in
-    search rules
-
-pub returns-else-e : goal.returns-else-e
-returns-else-e c =
-    let a = c.args in
-    let h = false-le _ _ _ c.entry_in_run-e.ensures.0 c.if-e.false in
-    λ k. c.loop-t.invariant.3 k ∙ ap length (run_end (new_hash a.w k a.c) (run_at a.main.now a.c) c.loop-t.t h)
-
-pub loop-t-preserved : goal.loop-t-preserved
-loop-t-preserved c =
-    let a = c.args in
-    let l = c.loop-t in
-    let e = c.entry_in_run-e.ensures in
-    let run = run_at a.main.now a.c in
-    let h : l.t < length run = true-lt _ _ _ e.0 c.if-e.true in (
-      omega arith,
-      omega arith,
-      elim c.if-l-eq2.branch [ then-l-eq2 w ↦ let e = w.m-is in omega arith | else-l-eq2 w ↦ let e = w.m-is in omega arith ],
-      λ k. elim c.if-l-eq2.branch [
-        | then-l-eq2 w ↦ subst (λ (m : ℕ). m ≡ length (of_run (new_hash a.w k a.c) (take (l.t + 1) run))) (sym w.m-is) (count_yes a.w k a.c _ _ run l.t l.m c.rest_of-l.ensures h e.1 (l.invariant.3 k) w.if-l-eq2.true)
-        | else-l-eq2 w ↦ subst (λ (m : ℕ). m ≡ length (of_run (new_hash a.w k a.c) (take (l.t + 1) run))) (sym w.m-is) (count_no a.w k a.c _ _ run l.t l.m c.rest_of-l.ensures h e.1 (l.invariant.3 k) w.if-l-eq2.false)
-      ],
+pub count-requires-clause-can : goal.count-requires-clause-can
+count-requires-clause-can c =
+    let run = run_at c.args.main.now c.args.c in
+    let g = c.requires in (
+      tt,
+      tt,
+      serves_from_places (YieldsList-from_first (λ (p : ℕ). p) (λ rest. rest) run cc) (λ x q r. search rules)
+          (λ x k h e y ye l _ _ _ _ _ _.
+          let pw : c.filter.result.p.0.now ≡ c.args.w = ap (λ (f : _). f.0.now) c.filter.ensures.closure in
+          let px : y.now ≡ get_or run k 0 = ye ∙ e ∙ get_or_default run k x 0 h in
+          (omega arith, omega (arith, ap (λ (j : ℕ). 2 ^ j) pw, g.3 c.args.c k g.0))),
     )
 
+pub count-requires-clause-fits : goal.count-requires-clause-fits
+count-requires-clause-fits c = inl (omega (arith, ap length c.filter.ensures.source))
+
+counted : (c : After-count) → c.count.result ≡ length (filter (λ p. eqb (rest_of c.args.w p) 2) (run_at c.args.main.now c.args.c))
+counted c =
+    let run = YieldsList-from_first (λ (p : ℕ). p) (λ (rest : List ℕ). rest) (run_at c.args.main.now c.args.c) c.entries_of.ensures.0 in
+    let road = YieldsList-at c.filter.ensures.source run in
+    count_from_yields_List c.filter.result c.count.result c.count.ensures.ran
+    (YieldsList-from_filter _ (λ p. eqb (rest_of c.args.w p) 2) road c.filter.ensures.closure (λ x r q k. search (rules, tests)))
+
+pub overflow_cast-result : goal.overflow_cast-result
+overflow_cast-result c =
+    let run = run_at c.args.main.now c.args.c in
+    omega (arith, counted c, filter-few (λ p. eqb (rest_of c.args.w p) 2) run, ap length c.entries_of.ensures.0)
+
 pub returns : goal.returns
-returns c =
-    let a = c.args in
-    let r = c.locate-r in
-    let h : length (run_at a.main.now a.c) ≤ c.loop-t.t = omega (arith, run_short a.main.now a.c r.result.home r.result.from c.requires.0 r.ensures.3) in
-    λ k. c.loop-t.invariant.3 k ∙ ap length (run_end (new_hash a.w k a.c) (run_at a.main.now a.c) c.loop-t.t h)
+returns c = λ k. counted c ∙ hashes-counted c.args.w k c.args.c (run_at c.args.main.now c.args.c)

@@ -13,36 +13,37 @@ use Rattle.doubling.proofs.double.Goals as goal
 pub write_second-used-requires : goal.write_second-used-requires
 write_second-used-requires c =
     let a = c.args in
-    let f = facts a.main.now a.second.now a.annex.now a.k a.w a.v a.taken a.n a.places c.requires in
+    let f = facts _ _ _ _ _ _ _ _ _ c.requires in
     (f.main_size, f.second_size, f.second_long, f.narrow, f.w_1, f.w_v, f.v_26, f.rises, f.few)
 
 pub returns-then-n-eq0 : goal.returns-then-n-eq0
 returns-then-n-eq0 c =
     let a = c.args in
-    λ r queue e. done_none r a.main.now queue a.annex.now a.k a.w a.v a.taken a.n a.places e _ _ c.write_second-used.ensures.0 c.write_second-used.ensures.1 c.if-n-eq0.true
+    let second = c.write_second-used.ensures in
+    λ r queue e. done_none r a.main.now queue a.annex.now a.k a.w a.v a.taken a.n a.places e _ _ second.0 second.1 c.if-n-eq0.true
 
 pub table_words-requires : goal.table_words-requires
 table_words-requires c =
     let a = c.args in
-    let f = facts a.main.now a.second.now a.annex.now a.k a.w a.v a.taken a.n a.places c.requires in
+    let f = facts _ _ _ _ _ _ _ _ _ c.requires in
     omega (arith, c.size_for-s.ensures.0, f.s_k, f.k_19)
 
 pub overflow_add-end : goal.overflow_add-end
 overflow_add-end c =
     let a = c.args in
-    let f = facts a.main.now a.second.now a.annex.now a.k a.w a.v a.taken a.n a.places c.requires in
+    let f = facts _ _ _ _ _ _ _ _ _ c.requires in
     omega (arith, f.taken_small)
 
 pub offset_bounds-annex-taken : goal.offset_bounds-annex-taken
 offset_bounds-annex-taken c =
     let a = c.args in
-    let f = facts a.main.now a.second.now a.annex.now a.k a.w a.v a.taken a.n a.places c.requires in
+    let f = facts _ _ _ _ _ _ _ _ _ c.requires in
     omega (arith, f.taken_small)
 
 pub slice_bounds-write_table-end : goal.slice_bounds-write_table-end
 slice_bounds-write_table-end c =
     let a = c.args in
-    let f = facts a.main.now a.second.now a.annex.now a.k a.w a.v a.taken a.n a.places c.requires in
+    let f = facts _ _ _ _ _ _ _ _ _ c.requires in
     let x : c.table_words.result ≡ 2 ^ size_for a.n = c.table_words.ensures.0 ∙ ap (λ y. 2 ^ y) c.size_for-s.ensures.0 in
     let h : a.taken + c.table_words.result ≤ length a.annex.now = omega (arith, f.room c.if-n-eq0.false) in
     search rules
@@ -50,7 +51,7 @@ slice_bounds-write_table-end c =
 pub write_table-requires : goal.write_table-requires
 write_table-requires c =
     let a = c.args in
-    let f = facts a.main.now a.second.now a.annex.now a.k a.w a.v a.taken a.n a.places c.requires in
+    let f = facts _ _ _ _ _ _ _ _ _ c.requires in
     let x = c.table_words.result in
     let es : c.size_for-s.result ≡ size_for a.n = c.size_for-s.ensures.0 in
     let ex : x ≡ 2 ^ size_for a.n = c.table_words.ensures.0 ∙ ap (λ y. 2 ^ y) es in
@@ -68,20 +69,21 @@ write_table-requires c =
       omega (arith, f.counted, f.fits, ap (λ y. 2 ^ y) es),
     )
 
-pub overflow_add-p : goal.overflow_add-p
-overflow_add-p c =
+pub overflow_add-place : goal.overflow_add-place
+overflow_add-place c =
     let a = c.args in
-    let f = facts a.main.now a.second.now a.annex.now a.k a.w a.v a.taken a.n a.places c.requires in
+    let f = facts _ _ _ _ _ _ _ _ _ c.requires in
     omega (arith, f.k_19)
 
-pub with_place-more-requires : goal.with_place-more-requires
-with_place-more-requires c =
+pub with_place-requires : goal.with_place-requires
+with_place-requires c =
     let a = c.args in
-    let f = facts a.main.now a.second.now a.annex.now a.k a.w a.v a.taken a.n a.places c.requires in
+    let f = facts _ _ _ _ _ _ _ _ _ c.requires in
     (f.free, f.zeros)
 
 pub returns : goal.returns
 returns c =
     let a = c.args in
-    λ r queue e. done-some r a.main.now queue a.annex.now a.k a.w a.v a.taken a.n a.places e _ _ c.write_second-used.ensures.0 c.write_second-used.ensures.1 _ _ _ _ c.if-n-eq0.false
-    c.size_for-s.ensures.0 c.table_words.ensures.0 c.write_table.ensures c.with_place-more.ensures
+    let second = c.write_second-used.ensures in
+    λ r queue e. done-some r a.main.now queue a.annex.now a.k a.w a.v a.taken a.n a.places e _ _ second.0 second.1 _ _ _ _ c.if-n-eq0.false
+    c.size_for-s.ensures.0 c.table_words.ensures.0 c.write_table.ensures c.with_place.ensures

@@ -1,13 +1,13 @@
--- Each turn takes one step of the definition: the size from s on is the size from 3 on. The measure is what is left of the tries.
-use borrow.Author.Rules.{rules}
-use Rattle.doubling.proofs.Loops.{size-stop, size-on, size-end}
+-- The search finds the first size that is large enough, which is what the definition tries.
+use Rattle.std.proofs.Common.{◌≤◌, ◌<◌, rules}
+use Rattle.std.proofs.lemmas.Iterator.{first_from_Range}
+use Rattle.slots.specs.Numbers.{limit}
+use Rattle.doubling.proofs.Loops.{size-found}
 use Rattle.doubling.proofs.size_for.Goals as goal
 
-pub returns-then-n-limit_of : goal.returns-then-n-limit_of
-returns-then-n-limit_of c = search (rules, size-stop)
-
-pub loop-s-preserved : goal.loop-s-preserved
-loop-s-preserved c = search (rules, size-on)
-
 pub returns : goal.returns
-returns c = search (rules, size-end)
+returns c =
+    let n = c.args.n in
+    rw c.unwrap_or.ensures
+    (size-found n c.find.result
+    (first_from_Range _ _ _ _ (λ s. n ≤ limit s) (λ s. limit s < n) c.find.ensures.ran (λ x q k. search rules) (λ x q k. search rules)))

@@ -1,13 +1,25 @@
 -- An entry of one bit gives one mother hash, any other none.
-use Rattle.doubling.proofs.Loops.{stored_no, stored-yes}
+use mathlib.Core.Path.{sym, ◌∙◌}
+use Prim.Native.Nat.{◌<◌}
+use native.Mathlib.Omega.{arith}
+use borrow.Author.Rules.{rules}
+use Rattle.doubling.proofs.Loops.{entry-small, stored_no, stored-yes}
 use Rattle.doubling.proofs.store.Goals as goal
 
-pub returns-then-l-eq2 : goal.returns-then-l-eq2
-returns-then-l-eq2 c =
+pub insert-requires : goal.insert-requires
+insert-requires c =
     let a = c.args in
-    stored-yes a.w a.k a.c a.p _ c.rest_of-l.ensures a.s _ _ _ _ _ c.if-l-eq2.true c.new_address-m.ensures.0 c.hash_slot-i.ensures.0 c.hash_payload-x.ensures.0 c.insert.ensures
+    let small : c.hash_entry-entry.result < 536870912 = entry-small _ a.s c.new_address-hash.result _ (omega arith) (omega arith) c.hash_entry-entry.ensures in
+    search rules
 
-pub returns-else-l-eq2 : goal.returns-else-l-eq2
-returns-else-l-eq2 c =
+pub returns-then-becomes_void : goal.returns-then-becomes_void
+returns-then-becomes_void c =
     let a = c.args in
-    stored_no a.w a.k a.c a.p _ c.rest_of-l.ensures a.s _ c.if-l-eq2.false
+    let hash = c.new_address-hash.ensures in
+    let new = sym c.becomes_void.ensures ∙ c.if-becomes_void.true in
+    stored-yes a.w a.k a.c a.p a.s _ _ _ _ _ new hash.0 hash.1 c.hash_slot-slot.ensures.0 c.hash_entry-entry.ensures c.insert.ensures
+
+pub returns-else-becomes_void : goal.returns-else-becomes_void
+returns-else-becomes_void c =
+    let a = c.args in
+    stored_no a.w a.k a.c a.p a.s _ (sym c.becomes_void.ensures ∙ c.if-becomes_void.false)

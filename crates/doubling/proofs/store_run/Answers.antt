@@ -1,49 +1,9 @@
--- The invariant: the mother hashes of the entries passed have arrived. At the end of the run these are all.
-use mathlib.Core.Path.{refl}
-use Prim.Native.Nat.{◌^◌, ◌≤◌, ◌<◌}
-use native.Mathlib.Omega.{arith}
-use lib.ListN.{length}
-use borrow.Author.Rules.{rules}
-use Rattle.layout.specs.Decode.{run_at}
-use Rattle.layout.proofs.Searches.{true-lt, false-le}
-use Rattle.arriving.proofs.Loops.{run_short, arrive-start, arrive-again, arrive-end}
+-- The mother hashes of the entries passed have arrived. At the end of the run these are all.
+use Rattle.arriving.proofs.Loops.{arrive-start, arrive-again}
 use Rattle.doubling.proofs.store_run.Goals as goal
 
-pub loop-t-init : goal.loop-t-init
-loop-t-init c =
-    (omega arith, omega arith, refl, arrive-start _ (run_at c.args.main.now c.args.c) _)
+pub loop-p-init : goal.loop-p-init
+loop-p-init c = arrive-start _ c.args.part.now
 
-pub store-requires : goal.store-requires
-store-requires c =
-    let a = c.args in
-    let g = c.requires in
-    let l = c.loop-t in
-    let h : c.entry_in_run-e.result.payload < 2 ^ a.w = omega (arith, c.entry_in_run-e.ensures.1, g.8 a.c c.loop-t.t (omega arith)) in
-    search rules
-
-pub returns-else-e : goal.returns-else-e
-returns-else-e c =
-    let l = c.loop-t in
-    let h = false-le _ _ _ c.entry_in_run-e.ensures.0 c.if-e.false in
-    arrive-end _ _ l.t _ _ h l.invariant.3
-
-pub loop-t-preserved : goal.loop-t-preserved
-loop-t-preserved c =
-    let a = c.args in
-    let l = c.loop-t in
-    let e = c.entry_in_run-e.ensures in
-    let run = run_at a.main.now a.c in
-    let h : l.t < length run = true-lt _ _ _ e.0 c.if-e.true in (
-      omega arith,
-      omega arith,
-      search rules,
-      arrive-again _ run l.t _ _ _ _ h e.1 l.invariant.3 c.store.ensures,
-    )
-
-pub returns : goal.returns
-returns c =
-    let a = c.args in
-    let l = c.loop-t in
-    let r = c.locate-r in
-    let h : length (run_at a.main.now a.c) ≤ l.t = omega (arith, run_short a.main.now a.c r.result.home r.result.from (omega arith) r.ensures.3) in
-    arrive-end _ _ l.t _ _ h l.invariant.3
+pub loop-p-preserved : goal.loop-p-preserved
+loop-p-preserved c = arrive-again _ c.loop-p.yielded c.in-Some.p _ _ _ c.loop-p.invariant c.store.ensures

@@ -1,8 +1,10 @@
--- The test is the definition, word by word.
-use mathlib.Core.Path.{refl}
-use Rattle.rules.specs.Refusals.{settings_right}
+-- Each test that fails decides, and where four hold the last does.
+use native.Mathlib.Omega.{arith}
+use Rattle.filter.proofs.Records.{settings-rest, settings-few, settings-many, settings-short, settings-long}
 use Rattle.filter.proofs.settings_right.Goals as goal
 
-pub returns : goal.returns
-unfolding settings_right
-returns c = refl
+pub returns-then-f-le15 : goal.returns-then-f-le15
+returns-then-f-le15 c = grind (arith, settings-rest)
+
+pub returns-else-f-le15 : goal.returns-else-f-le15
+returns-else-f-le15 c = grind (arith, settings-few, settings-many, settings-short, settings-long)

@@ -1,17 +1,17 @@
--- `lookup::count_in_run` meets its contract: the run of an address without the occupied bit is empty, and that of another is where `locate` says.
-use mathlib.Core.Path.{refl, sym, ap, ◌∙◌}
-use native.Mathlib.Omega.{arith}
+-- `lookup::count_in_run` meets its contract: what was counted, and the count of the entries that are still to come.
+use Rattle.std.proofs.Common.{length, ap, arith}
 use Rattle.lists.specs.Runs.{count}
-use Rattle.layout.proofs.RunLaws.{run_none, run-some}
-use borrow.Author.Rules.{rules}
+use Rattle.lookup.proofs.Finds.{one-more}
 use Rattle.lookup.proofs.count_in_run.Goals as goal
 
-pub returns-then-ws-c-eq0 : goal.returns-then-ws-c-eq0
-returns-then-ws-c-eq0 c =
-    let a = c.args in
-    sym (ap (count a.x) (run_none a.ws.now a.c (search rules) c.if-ws-c-eq0.true) ∙ (unfold count in refl))
+pub loop-payload-preserved : goal.loop-payload-preserved
+loop-payload-preserved c =
+    let l = c.loop-payload in
+    let more = one-more c.args.x c.in-Some.payload c.next.new.self c.from-count.result c.from-count.ensures in
+    let counted = ap (count c.args.x) c.in-Some.ensures.steps in
+    let few = ap length c.in-Some.ensures.steps in
+    record { counted = omega (arith, l.invariant.counted); few = omega (arith, l.invariant.few) }
 
 pub returns : goal.returns
-returns c =
-    let a = c.args in
-    c.count_from.ensures ∙ ap (count a.x) (c.locate-r.ensures.3 ∙ sym (run-some a.ws.now a.c (search rules) (omega arith)))
+unfolding count
+returns c = let l = c.loop-payload in omega (arith, l.invariant.counted, ap (count c.args.x) c.in-None.ensures.steps.0)

@@ -1,31 +1,33 @@
--- `lookup::entry_at` meets its contract: the first entry is always of the run, a later one while it continues, by the step laws of runs.
-use mathlib.Core.Path.{refl}
-use native.Mathlib.Omega.{arith}
+-- `lookup::entry_at` meets its contract: the first entry is there, and each later one where its word continues the run.
+use Rattle.std.proofs.Common.{refl, arith}
+use Rattle.layout.specs.Reading.{run_from}
 use Rattle.layout.proofs.RunLaws.{run_length, step-out, step-first, step-stop, step-on}
-use borrow.Author.Rules.{rules}
+use Rattle.lookup.proofs.Finds.{some-read, none-read}
 use Rattle.lookup.proofs.entry_at.Goals as goal
+use Rattle.lookup.proofs.entry_at.Goals.{else-t-gt0-via-then-t-gt0+else-w-eq0, else-t-gt0-via-else-t-gt0}
 
-pub overflow_add-j : goal.overflow_add-j
-overflow_add-j c =
-    let a = c.args in
-    omega (arith, run_length a.ws.now a.b a.from)
+pub overflow_add-place : goal.overflow_add-place
+overflow_add-place c = let a = c.args in omega (arith, run_length a.ws.now a.run.home a.run.from)
 
-pub returns-then-n-j : goal.returns-then-n-j
-returns-then-n-j c =
+pub returns-then-n-place : goal.returns-then-n-place
+returns-then-n-place c =
     let a = c.args in
-    step-out a.ws.now a.b a.from a.t _ (search rules) refl (search rules) (search rules)
-
-pub returns-then-t-eq0 : goal.returns-then-t-eq0
-returns-then-t-eq0 c =
-    let a = c.args in
-    step-first a.ws.now a.b a.from a.t _ (search rules) refl (search rules) _ (search rules) c.around-i.ensures.0 c.if-t-eq0.true
+    none-read (run_from a.ws.now a.run.home a.run.from) a.t _ (step-out a.ws.now a.run.home a.run.from a.t _ (omega arith) refl (omega arith) c.if-n-place.true)
 
 pub returns-then-w-eq0 : goal.returns-then-w-eq0
 returns-then-w-eq0 c =
     let a = c.args in
-    step-stop a.ws.now a.b a.from a.t _ (search rules) refl (search rules) _ (search rules) c.around-i.ensures.0 c.if-t-eq0.false c.if-w-eq0.true
+    none-read (run_from a.ws.now a.run.home a.run.from) a.t _
+    (step-stop a.ws.now a.run.home a.run.from a.t _ (omega arith) refl (omega arith) _ c.if-n-place.false c.around.ensures.0 (omega arith) c.if-w-eq0.true)
 
-pub returns : goal.returns
-returns c =
+pub returns-else-t-gt0 : goal.returns-else-t-gt0
+returns-else-t-gt0 c =
     let a = c.args in
-    step-on a.ws.now a.b a.from a.t _ (search rules) refl (search rules) _ (search rules) c.around-i.ensures.0 c.if-t-eq0.false c.if-w-eq0.false
+    let read = some-read (run_from a.ws.now a.run.home a.run.from) a.t in
+    elim c.else-t-gt0.branch [
+      | else-t-gt0-via-then-t-gt0+else-w-eq0 w ↦
+          read _
+          (step-on a.ws.now a.run.home a.run.from a.t _ (omega arith) refl (omega arith) _ c.if-n-place.false c.around.ensures.0 (omega arith) w.if-w-eq0.false)
+      | else-t-gt0-via-else-t-gt0 w ↦
+          read _ (step-first a.ws.now a.run.home a.run.from a.t _ (omega arith) refl (omega arith) _ c.if-n-place.false c.around.ensures.0 (omega arith))
+    ]

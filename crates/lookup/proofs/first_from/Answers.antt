@@ -1,7 +1,5 @@
 -- `lookup::first_from` meets its contract: the loop carries the slot and the payload of the next entry, by the laws of `Scanning`.
-use mathlib.Core.Path.{refl}
-use native.Mathlib.Omega.{arith}
-use borrow.Author.Rules.{rules}
+use Rattle.std.proofs.Common.{sym, arith}
 use Rattle.slots.specs.Payload.{matches}
 use Rattle.layout.proofs.RunLaws.{run_length}
 use Rattle.layout.proofs.Searches.{seeking-start}
@@ -9,38 +7,51 @@ use Rattle.lookup.proofs.Finds.{first-none}
 use Rattle.lookup.proofs.Scans.{scan-start, scan-found, scan-stop, scan-on, scan-end}
 use Rattle.lookup.proofs.first_from.Goals as goal
 
-pub returns-then-n-from : goal.returns-then-n-from
-returns-then-n-from c =
+pub returns-then-n-run : goal.returns-then-n-run
+returns-then-n-run g c =
     let a = c.args in
-    first-none _ _ 0 (seeking-start _ _) (omega (arith, run_length a.ws.now a.b a.from))
+    first-none _ _ 0 (seeking-start _ _) (omega (arith, run_length (g.W.Words.words a.table) a.run.home a.run.from))
 
-pub loop-t-init : goal.loop-t-init
-loop-t-init c =
+pub loop-init : goal.loop-init
+loop-init g c =
     let a = c.args in
-    (search rules, scan-start (matches a.w a.k a.hash) a.ws.now a.b a.from _ (search rules) refl c.if-n-from.false _ _ c.around-i.ensures.0 refl)
+    record {
+      inside = omega arith;
+      scan =
+          scan-start (matches a.w a.k a.hash) (g.W.Words.words a.table) a.run.home a.run.from _ (omega arith) (sym c.size-n.ensures) c.if-n-run.false
+          _ _ c.around-slot.ensures.0 c.word-payload.ensures;
+    }
 
-pub returns-then-m : goal.returns-then-m
-returns-then-m c =
+pub returns-then-matches : goal.returns-then-matches
+returns-then-matches g c =
     let a = c.args in
-    let l = c.loop-t in
-    scan-found (matches a.w a.k a.hash) a.ws.now a.b a.from _ (search rules) refl l.t l.i l.p l.invariant.1 (search rules) _ c.matches-m.ensures c.if-m.true
+    let l = c.loop in
+    scan-found (matches a.w a.k a.hash) (g.W.Words.words a.table) a.run.home a.run.from _ (omega arith) (sym c.size-n.ensures)
+    l.counter l.slot l.payload l.invariant.scan (omega arith) _ c.matches.ensures c.if-matches.true
 
-pub returns-then-v-eq0 : goal.returns-then-v-eq0
-returns-then-v-eq0 c =
+pub loop-preserved : goal.loop-preserved
+loop-preserved g c =
     let a = c.args in
-    let l = c.loop-t in
-    scan-stop (matches a.w a.k a.hash) a.ws.now a.b a.from _ (search rules) refl l.t l.i l.p l.invariant.1 (search rules) _ c.matches-m.ensures c.if-m.false _ _ c.around-i-in-loop-t.ensures.0 refl c.if-v-eq0.true
+    let l = c.loop in
+    record {
+      inside = omega arith;
+      scan =
+          scan-on (matches a.w a.k a.hash) (g.W.Words.words a.table) a.run.home a.run.from _ (omega arith) (sym c.size-n.ensures)
+          l.counter l.slot l.payload l.invariant.scan (omega arith)
+          _ c.matches.ensures c.if-matches.false _ _ c.after-slot.ensures.0 c.word-word.ensures c.if-word-eq0.false;
+    }
 
-pub loop-t-preserved : goal.loop-t-preserved
-loop-t-preserved c =
+pub returns-after-loop : goal.returns-after-loop
+returns-after-loop g c =
     let a = c.args in
-    let l = c.loop-t in (
-      search rules,
-      scan-on (matches a.w a.k a.hash) a.ws.now a.b a.from _ (search rules) refl l.t l.i l.p l.invariant.1 (search rules) _ c.matches-m.ensures c.if-m.false _ _ c.around-i-in-loop-t.ensures.0 refl c.if-v-eq0.false,
-    )
+    let l = c.loop in
+    scan-end (matches a.w a.k a.hash) (g.W.Words.words a.table) a.run.home a.run.from _ (omega arith) (sym c.size-n.ensures)
+    l.counter l.slot l.payload l.invariant.scan (omega arith)
 
-pub returns : goal.returns
-returns c =
+pub returns-then-word-eq0 : goal.returns-then-word-eq0
+returns-then-word-eq0 g c =
     let a = c.args in
-    let l = c.loop-t in
-    scan-end (matches a.w a.k a.hash) a.ws.now a.b a.from _ (search rules) refl l.t l.i l.p l.invariant.1 (search rules)
+    let l = c.loop in
+    scan-stop (matches a.w a.k a.hash) (g.W.Words.words a.table) a.run.home a.run.from _ (omega arith) (sym c.size-n.ensures)
+    l.counter l.slot l.payload l.invariant.scan (omega arith)
+    _ c.matches.ensures c.if-matches.false _ _ c.after-slot.ensures.0 c.word-word.ensures c.if-word-eq0.true

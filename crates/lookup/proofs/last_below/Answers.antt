@@ -1,39 +1,40 @@
--- `lookup::last_below` meets its contract: the last that is x or smaller stands before the first that is x + 1 or larger.
-use mathlib.Core.Path.{◌≡◌, sym, ◌∙◌}
-use native.Mathlib.Omega.{arith}
-use borrow.Author.Rules.{rules}
-use borrow.Author.Tests.{eqb-true, eqb-false}
-use Rattle.layout.specs.Decode.{run_at}
-use Rattle.layout.specs.Reading.{run_from}
-use Rattle.layout.proofs.RunLaws.{run_none, run-some, run_length}
-use Rattle.layout.proofs.Searches.{clash}
-use Rattle.lookup.proofs.Finds.{no_last, none_below, last-other, last-spotted}
+-- `lookup::last_below` meets its contract: the last that is x or smaller is x, or x is missing.
+use Rattle.std.proofs.Common.{arith}
+use Rattle.layout.proofs.RunLaws.{run_none, run_length}
+use Rattle.lookup.proofs.Finds.{run-found, no_last, none-below, last-other, last-spotted, same-some, other-some}
 use Rattle.lookup.proofs.last_below.Goals as goal
 
-pub returns-then-ws-c-eq0 : goal.returns-then-ws-c-eq0
-returns-then-ws-c-eq0 c =
+pub returns-then-ws-c-eq0-clause-none : goal.returns-then-ws-c-eq0-clause-none
+returns-then-ws-c-eq0-clause-none c =
     let a = c.args in
-    (λ e. absurd (clash (sym e)), λ _. no_last a.ws.now a.c a.x (run_none a.ws.now a.c (search rules) c.if-ws-c-eq0.true), omega arith)
+    no_last a.ws.now a.c a.x (run_none a.ws.now a.c (omega arith) c.if-ws-c-eq0.true)
 
-pub returns-then-i-eq0 : goal.returns-then-i-eq0
-returns-then-i-eq0 c =
+pub returns-in_err-last-clause-none : goal.returns-in_err-last-clause-none
+returns-in_err-last-clause-none c =
     let a = c.args in
-    let r : run_from a.ws.now c.locate-r.result.home c.locate-r.result.from ≡ run_at a.ws.now a.c =
-    c.locate-r.ensures.3 ∙ sym (run-some a.ws.now a.c (search rules) (omega arith)) in
-    (λ e. absurd (clash (sym e)), λ _. none_below a.ws.now a.c a.x _ r _ c.rank_from-i.ensures.0 c.if-i-eq0.true, omega arith)
+    let same = run-found a.ws.now a.c _ _ (omega arith) c.if-ws-c-eq0.false c.locate-run.ensures.3 in
+    rw c.from_residual.ensures (none-below a.ws.now a.c a.x _ same _ c.rank_from.ensures.0 c.in_err-last.ensures)
 
 pub overflow_add-result : goal.overflow_add-result
 overflow_add-result c =
-    let z = run_length c.args.ws.now c.locate-r.result.home c.locate-r.result.from in
-    omega arith
+    let long = run_length c.args.ws.now c.locate-run.result.home c.locate-run.result.from in
+    omega (arith, c.in_ok-last.ensures)
 
-pub returns : goal.returns
-returns c =
+pub returns-then-eq-clause-some : goal.returns-then-eq-clause-some
+returns-then-eq-clause-some c =
     let a = c.args in
-    let r : run_from a.ws.now c.locate-r.result.home c.locate-r.result.from ≡ run_at a.ws.now a.c =
-    c.locate-r.ensures.3 ∙ sym (run-some a.ws.now a.c (search rules) (omega arith)) in
-    let z = run_length a.ws.now c.locate-r.result.home c.locate-r.result.from in (
-      λ e. last-spotted a.ws.now a.c a.x _ r _ c.rank_from-i.ensures.0 _ c.entry_at-e.ensures.1 c.if-i-eq0.false (eqb-true _ _ e) _ c.locate-r.ensures.4,
-      λ e. last-other a.ws.now a.c a.x _ r _ c.rank_from-i.ensures.0 _ c.entry_at-e.ensures.1 (eqb-false _ _ e),
+    let same = run-found a.ws.now a.c _ _ (omega arith) c.if-ws-c-eq0.false c.locate-run.ensures.3 in
+    let long = run_length a.ws.now c.locate-run.result.home c.locate-run.result.from in
+    let last = c.in_ok-last.ensures in (
+      last-spotted a.ws.now a.c a.x _ same _ c.rank_from.ensures.0 _ last.1 last.0 _ c.entry_at.ensures
+          (same-some _ a.x _ c.eq.ensures c.if-eq.true) _ c.locate-run.ensures.4,
       omega arith,
     )
+
+pub returns-else-eq-clause-none : goal.returns-else-eq-clause-none
+returns-else-eq-clause-none c =
+    let a = c.args in
+    let same = run-found a.ws.now a.c _ _ (omega arith) c.if-ws-c-eq0.false c.locate-run.ensures.3 in
+    let last = c.in_ok-last.ensures in
+    last-other a.ws.now a.c a.x _ same _ c.rank_from.ensures.0 _ last.1 last.0 _ c.entry_at.ensures
+    (other-some _ a.x _ c.eq.ensures c.if-eq.false) (omega arith)

@@ -1,10 +1,9 @@
 -- `lookup::query_place` meets its contract: an entry at home begins its run; else the walk finds it.
-use mathlib.Core.Path.{refl}
-use borrow.Author.Rules.{rules}
+use Rattle.std.proofs.Common.{arith}
 use Rattle.walks.proofs.Homes.{home-located}
 use Rattle.lookup.proofs.query_place.Goals as goal
 
-pub returns-then-ws-c-eq0 : goal.returns-then-ws-c-eq0
-returns-then-ws-c-eq0 c =
+pub returns-then-word-eq0 : goal.returns-then-word-eq0
+returns-then-word-eq0 g c =
     let a = c.args in
-    (search rules, search rules, home-located a.ws.now a.c _ (search rules) (search rules) refl c.if-ws-c-eq0.true)
+    (omega arith, omega arith, home-located (g.W.Words.words a.table) a.c _ (omega arith) (omega arith) c.word.ensures c.if-word-eq0.true)

@@ -1,36 +1,36 @@
--- `lookup::rank_from` meets its contract: entries are passed while they are below x, by the laws of `Seeking`.
-use mathlib.Core.Path.{sym, ap, ◌∙◌}
-use native.Mathlib.Omega.{arith}
-use lib.Dec.{leb}
-use borrow.Author.Tests.{le-leb, lt-leb}
-use Rattle.layout.proofs.RunLaws.{run_length}
-use Rattle.layout.proofs.Searches.{seeking-start, seeking-found, seeking-on, seeking-end, true-lt, false-le}
+-- `lookup::rank_from` meets its contract: the entries that were read are smaller than x, by the laws of `Seeking`.
+use Rattle.std.proofs.Common.{◌∙◌, leb, sym, ap}
+use borrow.Author.Tests.{lt-leb, le-leb}
+use Rattle.layout.specs.Reading.{run_from}
+use Rattle.layout.proofs.Searches.{seeking-on, seeking-found, seeking-end}
+use Rattle.lookup.proofs.Finds.{next-some, next-none}
 use Rattle.lookup.proofs.rank_from.Goals as goal
 
-pub loop-t-init : goal.loop-t-init
-loop-t-init c = (omega arith, seeking-start _ _)
-
-pub returns-then-x-e : goal.returns-then-x-e
-returns-then-x-e c =
-    let e = c.entry_at-e.ensures in
-    let h = true-lt _ _ _ e.0 c.if-e.true in
-    let g = seeking-found _ _ _ c.loop-t.invariant.1 h (ap (leb _) (sym e.1) ∙ le-leb _ _ c.if-x-e.true) in
-    (sym g, omega arith)
-
-pub returns-else-e : goal.returns-else-e
-returns-else-e c =
-    let g = seeking-end _ _ _ c.loop-t.invariant.1 (false-le _ _ _ c.entry_at-e.ensures.0 c.if-e.false) in
-    (sym g, c.loop-t.invariant.1.within)
-
-pub loop-t-preserved : goal.loop-t-preserved
-loop-t-preserved c =
-    let e = c.entry_at-e.ensures in
-    let h = true-lt _ _ _ e.0 c.if-e.true in
-    (omega arith, seeking-on _ _ _ c.loop-t.invariant.1 h (ap (leb _) (sym e.1) ∙ lt-leb _ _ c.if-x-e.false))
-
-pub returns : goal.returns
-returns c =
+pub loop-payload-preserved : goal.loop-payload-preserved
+loop-payload-preserved c =
     let a = c.args in
-    let l = c.loop-t in
-    let g = seeking-end _ _ _ l.invariant.1 (omega (arith, run_length a.ws.now a.b a.from)) in
-    (sym g, l.invariant.1.within)
+    let l = c.loop-payload in
+    let p = c.in-Some.payload in
+    let run = run_from a.ws.now a.run.home a.run.from in
+    let here = next-some run l.rank p _ (sym l.invariant.rest ∙ c.in-Some.ensures.steps) in
+    record {
+      passed = seeking-on (leb a.x) run l.rank l.invariant.passed here.0 (ap (leb a.x) here.1 ∙ lt-leb a.x p c.if-x-payload.false);
+      rest = here.2;
+    }
+
+pub returns-in-None : goal.returns-in-None
+returns-in-None c =
+    let a = c.args in
+    let l = c.loop-payload in
+    let run = run_from a.ws.now a.run.home a.run.from in
+    let past = next-none run l.rank (sym l.invariant.rest ∙ c.in-None.ensures.steps.0) in
+    (sym (seeking-end (leb a.x) run l.rank l.invariant.passed past), l.invariant.passed.within)
+
+pub returns-then-x-payload : goal.returns-then-x-payload
+returns-then-x-payload c =
+    let a = c.args in
+    let l = c.loop-payload in
+    let p = c.in-Some.payload in
+    let run = run_from a.ws.now a.run.home a.run.from in
+    let here = next-some run l.rank p _ (sym l.invariant.rest ∙ c.in-Some.ensures.steps) in
+    (sym (seeking-found (leb a.x) run l.rank l.invariant.passed here.0 (ap (leb a.x) here.1 ∙ le-leb a.x p c.if-x-payload.true)), l.invariant.passed.within)

@@ -1,20 +1,22 @@
 -- `part` meets its contract: the words of the tables before place i are skipped, and that of place i ends within the words of all tables.
-use native.Mathlib.Omega.{arith}
-use borrow.Author.Rules.{rules}
-use Rattle.places.proofs.Loops.{place-low, part-nothing, part-ends, part-found, part_lies}
+use Rattle.std.proofs.Common.{◌<◌, rules}
+use Rattle.places.proofs.Loops.{part-nothing, place-low, part-ends, part-found, part_lies}
 use Rattle.places.proofs.part.Goals as goal
 
-pub returns-then-i-ge15 : goal.returns-then-i-ge15
-returns-then-i-ge15 c = search (rules, part-nothing)
+pub returns-in-None-clause-words : goal.returns-in-None-clause-words
+returns-in-None-clause-words c = part-nothing _ _ _ c.in-None.ensures
 
-pub words_taken-at-requires : goal.words_taken-at-requires
-words_taken-at-requires c = search (rules, place-low)
+pub bounds-places-i : goal.bounds-places-i
+bounds-places-i c = place-low _ _ _ c.in-Some.ensures (search rules)
 
-pub table_words-requires : goal.table_words-requires
-table_words-requires c = omega (arith, c.requires.1 c.place_of-i.result)
+pub offset_bounds-places-i : goal.offset_bounds-places-i
+offset_bounds-places-i c = let low : c.in-Some.i < 15 = place-low _ _ _ c.in-Some.ensures (search rules) in search rules
 
-pub slice_bounds-result-end-2 : goal.slice_bounds-result-end-2
-slice_bounds-result-end-2 c = search (rules, part-ends)
+pub slice_bounds-result-end : goal.slice_bounds-result-end
+slice_bounds-result-end c = part-ends _ _ _ c.in-Some.ensures _ _ _ c.words_taken-at.ensures.0 c.table_words.ensures.0 c.requires.0
 
-pub returns : goal.returns
-returns c = search (rules, part-found, part_lies)
+pub returns-in-Some-clause-words : goal.returns-in-Some-clause-words
+returns-in-Some-clause-words c = part-found _ _ _ c.in-Some.ensures _ _ _ c.words_taken-at.ensures.0 c.table_words.ensures.0
+
+pub returns-in-Some-clause-there : goal.returns-in-Some-clause-there
+returns-in-Some-clause-there c = part_lies _ _ _ c.in-Some.ensures c.args.annex.now _ _ c.words_taken-at.ensures.0 c.table_words.ensures.0 _ _

@@ -1,16 +1,14 @@
--- `place_of` goes through the places in use: no table before place i has length b.
-use borrow.Author.Rules.{rules}
-use Rattle.places.proofs.Loops.{place-start, place_found, place-again, place_none}
+-- `place_of` looks for the length among the places in use.
+use Rattle.std.proofs.Common.{◌≡◌, ◌∙◌, ap, take, position, rules}
+use Rattle.std.proofs.lemmas.Iterator.{YieldsList-from_slice}
+use Rattle.std.proofs.lemmas.Iterator.Search.{position_from_yields_List}
+use borrow.Author.Tests.{tests}
+use Rattle.places.proofs.Loops.{has_length, in-use}
 use Rattle.places.proofs.place_of.Goals as goal
 
-pub loop-i-init : goal.loop-i-init
-loop-i-init c = search (rules, place-start)
-
-pub returns-then-p-b : goal.returns-then-p-b
-returns-then-p-b c = search (rules, place_found)
-
-pub loop-i-preserved : goal.loop-i-preserved
-loop-i-preserved c = search (rules, place-again)
-
 pub returns : goal.returns
-returns c = search (rules, place_none)
+returns c =
+    let ps = take c.places_in_use-n.result c.args.places in
+    let found : c.position.result ≡ position (has_length c.args.b) ps =
+    position_from_yields_List (has_length c.args.b) _ _ _ c.position.ensures.ran (YieldsList-from_slice ps (cc)) (λ x b q k. search (rules, tests)) in
+    found ∙ ap (position (has_length c.args.b)) (in-use _ _ c.places_in_use-n.ensures.0)

@@ -3,8 +3,5 @@ use native.Mathlib.Omega.{arith}
 use Rattle.removing.proofs.Closers.{start-bit}
 use Rattle.removing.proofs.still_waiting.Goals as goal
 
-pub returns-then-t-less : goal.returns-then-t-less
-returns-then-t-less c = (omega (arith, start-bit c.args.v), omega arith)
-
-pub returns-else-t-less : goal.returns-else-t-less
-returns-else-t-less c = (omega (arith, start-bit c.args.v), omega arith)
+pub returns : goal.returns
+returns c = (omega (arith, start-bit c.args.v), omega arith)

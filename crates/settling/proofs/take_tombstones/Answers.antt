@@ -1,29 +1,29 @@
--- `take_tombstones` goes over the queue words: at j a tombstone is gone for each even word before.
+-- `take_tombstones` goes over the queue words: at each a tombstone is gone for each even word before.
 use native.Mathlib.Omega.{arith}
 use Rattle.settling.proofs.Tombstones.{clear-start, clear-end, clear-past, clear-on, names-inside}
 use Rattle.settling.proofs.take_tombstones.Goals as goal
-use Rattle.settling.proofs.take_tombstones.Goals.{then-q-eq0, else-q-eq0}
+use Rattle.settling.proofs.take_tombstones.Goals.{then-word-eq0, else-word-eq0}
 
-pub loop-j-init : goal.loop-j-init
-loop-j-init c = clear-start _ _ _ _
-
-pub overflow_cast-c : goal.overflow_cast-c
-overflow_cast-c c = let h = names-inside _ _ _ _ c.requires.4 c.requires.5 c.loop-j-test.true in record { fits = omega (arith, h) }
+pub loop-word-init : goal.loop-word-init
+loop-word-init c = clear-start _ _ _
 
 pub take_one-gone-requires : goal.take_one-gone-requires
 take_one-gone-requires c =
-    let h = names-inside _ _ _ _ c.requires.4 c.requires.5 c.loop-j-test.true in
-    omega (arith, h, c.loop-j.invariant.size, c.requires)
+    let h = names-inside _ _ _ c.requires.4 c.loop-word-test.true in
+    omega (arith, h, c.loop-word.invariant.size, c.requires)
 
 pub overflow_add-gone : goal.overflow_add-gone
-overflow_add-gone c = omega (arith, c.take_one-gone.ensures.0, c.loop-j.invariant.few, c.loop-j.invariant.low, c.requires.3)
+overflow_add-gone c = omega (arith, c.take_one-gone.ensures.0, c.loop-word.invariant.few, c.loop-word-test.true, c.requires.3)
 
-pub loop-j-preserved : goal.loop-j-preserved
-loop-j-preserved c =
-    elim c.if-q-eq0.branch [
-      | then-q-eq0 w ↦ clear-on _ _ _ _ _ _ _ c.loop-j.invariant c.loop-j-test.true c.requires.4 w.if-q-eq0.true _ _ c.tombstone_of-tombstone.ensures w.take_one-gone.ensures.0 _ w.take_one-gone.auto.main w.take_one-gone.ensures.1 _ _ w.main-is w.gone-is
-      | else-q-eq0 w ↦ clear-past _ _ _ _ _ _ _ c.loop-j.invariant c.loop-j-test.true c.requires.4 w.if-q-eq0.false _ _ w.main-is w.gone-is
+pub loop-word-preserved : goal.loop-word-preserved
+loop-word-preserved c =
+    let inv = c.loop-word.invariant in
+    let low = c.loop-word-test.true in
+    elim c.if-word-eq0.branch [
+      | then-word-eq0 w ↦ clear-on _ _ _ _ _ _ inv low w.if-word-eq0.true _ _ c.tombstone_of-tombstone.ensures w.take_one-gone.ensures.0 _
+          w.take_one-gone.auto.main w.take_one-gone.ensures.1 _ _ w.main-is w.gone-is
+      | else-word-eq0 w ↦ clear-past _ _ _ _ _ _ inv low w.if-word-eq0.false _ _ w.main-is w.gone-is
     ]
 
 pub returns : goal.returns
-returns c = clear-end _ _ _ _ _ _ _ c.loop-j.invariant c.loop-j-test.false
+returns c = clear-end _ _ _ _ _ _ c.loop-word.invariant c.loop-word-test.false

@@ -1,10 +1,6 @@
 -- `take_voids` visits the addresses with the low b bits of c in steps of 2^b: at d the voids of those below d are gone.
-use Prim.Native.Nat.{◌-◌}
 use Rattle.settling.proofs.Voids.{Walking}
 use Rattle.settling.proofs.take_voids.Given as goal
 
 abbrev pub invariant-loop-d : goal.invariant-loop-d
 invariant-loop-d l = Walking l.k l.w l.c l.b l.initial.main l.main l.gone l.d
-
-abbrev pub decreases-loop-d : goal.decreases-loop-d
-decreases-loop-d l = l.size - l.d

@@ -4,19 +4,12 @@ use native.Mathlib.Omega.{arith}
 use lib.Pow.{pow_mono}
 use borrow.Author.Rules.{rules}
 use Rattle.slots.specs.Payload.{pay}
-use Rattle.slots.proofs.PayloadLaws.{pay-lt}
 use Rattle.slots.proofs.encode.Goals as goal
 
 pub overflow_sub-result : goal.overflow_sub-result
 overflow_sub-result c =
     let a = c.args in
     omega (arith, pow_mono {i = a.l + 1} {j = a.w} (omega arith))
-
-pub overflow_add-result : goal.overflow_add-result
-unfolding pay
-overflow_add-result c =
-    let a = c.args in
-    record { fits = omega (arith, pay-lt a.w a.l a.f (omega arith) (omega arith)) }
 
 pub returns : goal.returns
 unfolding pay

@@ -18,8 +18,8 @@ widened g x n = rw (extra, ne_eqb g 0 n)
 pub returns-then-regime-eq0 : goal.returns-then-regime-eq0
 returns-then-regime-eq0 c = (fixed _ _ c.if-regime-eq0.true, omega arith)
 
-pub returns : goal.returns
+pub returns-else-regime-eq0 : goal.returns-else-regime-eq0
 unfolding table
-returns c =
+returns-else-regime-eq0 c =
     let d = widening-at c.args.generation (omega arith) in
     (d.rule ∙ widened _ _ c.if-regime-eq0.false, d.small)

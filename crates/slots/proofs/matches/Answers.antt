@@ -18,22 +18,21 @@ too_large w k h p top e le = sym (none-matches w k h p (rest-large w p (omega ar
 
 compared : (w k h p m top f : ℕ) → m ≡ rest_of w p → (m ≡ 0 → ⊥) → top ≡ 2 ^ (m - 1) → f ≡ hash_bits h k (m - 1) → eqb (p % top) f ≡ matches w k h p
 unfolding matches length_of fingerprint_of
-compared w k h p m top f e n t b = rw (t, b, e) (ap (λ x. x && eqb (p % 2 ^ (rest_of w p - 1)) (hash_bits h k (rest_of w p - 1))) (sym (lt-ltb 0 (rest_of w p) (omega arith))))
-
-short : (w p m : ℕ) → m ≡ rest_of w p → w ≤ 26 → m - 1 ≤ 26
-short w p m e h = omega (arith, rest_le w p)
+compared w k h p m top f e n t b =
+    rw (t, b, e)
+    (ap (λ x. x && eqb (p % 2 ^ (rest_of w p - 1)) (hash_bits h k (rest_of w p - 1))) (sym (lt-ltb 0 (rest_of w p) (omega arith))))
 
 pub returns-then-pow2-payload : goal.returns-then-pow2-payload
 returns-then-pow2-payload c = search (rules, too_large)
 
-pub returns-then-m-eq0 : goal.returns-then-m-eq0
-returns-then-m-eq0 c = search (rules, no-rest)
+pub returns-in-0 : goal.returns-in-0
+returns-in-0 c = search (rules, no-rest)
 
-pub pow2-requires-2 : goal.pow2-requires-2
-pow2-requires-2 c = search (rules, short)
+pub pow2-requires-in_default : goal.pow2-requires-in_default
+pow2-requires-in_default c = omega (arith, rest_le c.args.w c.args.payload)
 
 pub hash_bits-requires : goal.hash_bits-requires
-hash_bits-requires c = search (rules, short)
+hash_bits-requires c = omega (arith, rest_le c.args.w c.args.payload)
 
-pub returns : goal.returns
-returns c = search (rules, compared)
+pub returns-in_default : goal.returns-in_default
+returns-in_default c = search (rules, compared)

@@ -2,7 +2,7 @@
 use mathlib.Core.Path.{◌≡◌, sym, ◌∙◌}
 use Prim.Native.Nat.{ℕ, ◌-◌, ◌^◌, ◌≤◌, ◌<◌}
 use native.Mathlib.Omega.{arith}
-use lib.Count.{count_leading_zeros, leading_le, leading_length}
+use lib.Count.{count_leading_zeros, leading_length}
 use borrow.Author.Rules.{rules}
 use Rattle.slots.specs.Payload.{rest_of}
 use Rattle.slots.proofs.PayloadLaws.{Range, rest-of-range}
@@ -16,9 +16,6 @@ lacking w p top e le h =
     let m : 32 - count_leading_zeros 32 lack ≡ s.0 = omega (arith, s.1) in
     let r : Range w p s.0 = record { low = omega (arith, s.2); high = omega (arith, s.3) } in
     m ∙ sym (rest-of-range w p s.0 r)
-
-pub overflow_sub-result : goal.overflow_sub-result
-overflow_sub-result c = leading_le 32 _
 
 pub returns : goal.returns
 returns c =

@@ -1,17 +1,13 @@
--- The lap goes on from slot to slot: what is left of it, from the slot j slots on from z, is good exactly if all of it is.
-use Prim.Native.Nat.{◌≤◌, ◌<◌, ◌-◌}
+-- The lap goes on from slot to slot: what is left of it after the words passed is good exactly if all of it is.
+use Prim.Native.Nat.{◌≤◌}
 use mathlib.Core.Path.{◌≡◌}
-use lib.ListN.{drop}
+use lib.ListN.{length, drop}
 use Rattle.layout.specs.Decode.{turn}
-use Rattle.layout.specs.Moves.{wrap}
 use Rattle.sound.specs.Spans.{allowed}
 use Rattle.sound.specs.Lap.{fits, start}
 use Rattle.sound.proofs.lap_from.Given as goal
 
-abbrev pub invariant-loop-j : goal.invariant-loop-j
-invariant-loop-j l =
-    (l.j ≤ l.n) × (l.i ≡ wrap l.n l.z l.j) × (l.i < l.n) × (l.s.opened ≤ l.j) × (l.s.begun ≤ l.j) × (l.s.count ≤ l.j)
-    × (fits (allowed l.t) l.count l.s (drop l.j (turn l.z l.words)) ≡ fits (allowed l.t) l.count start (turn l.z l.words))
-
-abbrev pub decreases-loop-j : goal.decreases-loop-j
-decreases-loop-j l = l.n - l.j
+abbrev pub invariant-loop-word : goal.invariant-loop-word
+invariant-loop-word l =
+    ((l.lap.opened ≤ length l.yielded) × (l.lap.begun ≤ length l.yielded) × (l.lap.count ≤ length l.yielded))
+    × (fits (allowed l.spans) l.count l.lap (drop (length l.yielded) (turn l.z l.words)) ≡ fits (allowed l.spans) l.count start (turn l.z l.words))

@@ -1,10 +1,6 @@
 -- At place j of the circle, what is counted and what is to come of the run make the whole of it.
-use Prim.Native.Nat.{◌≤◌, ◌-◌}
 use Rattle.sound.proofs.Readings.{Going}
 use Rattle.sound.proofs.read_run.Given as goal
 
 abbrev pub invariant-loop-j : goal.invariant-loop-j
-invariant-loop-j l = (l.j ≤ l.n) × Going l.words l.c l.k l.t l.v l.j l.tombstones l.voids
-
-abbrev pub decreases-loop-j : goal.decreases-loop-j
-decreases-loop-j l = l.n - l.j
+invariant-loop-j l = Going l.words l.c l.k l.t l.v l.j l.tombstones l.voids

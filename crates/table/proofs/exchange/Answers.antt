@@ -13,15 +13,9 @@ use Rattle.table.proofs.exchange.Goals as goal
 pub returns-then-gone : goal.returns-then-gone
 returns-then-gone c =
     let a = c.args in (
-      λ e. absurd (clash e),
+      λ e. absurd (clash (sym c.if-gone.true ∙ e)),
       λ runs el h r.
           let d = c.remove-gone.ensures.1 runs el h r in
-          let t = sym d.0 ∙ c.if-gone.true in
           let hc : a.c < length runs = omega (arith, ap length el, layout-length runs) in
-          (sym t, λ _. c.insert.ensures _ d.1 (exchange-fits runs a.c a.x hc h t) ∙ exchanged runs a.c a.y (erase a.x (get_or runs a.c [])) hc),
+          (d.0, λ t. c.insert.ensures _ d.1 (exchange-fits runs a.c a.x hc h (sym d.0 ∙ t)) ∙ exchanged runs a.c a.y (erase a.x (get_or runs a.c [])) hc),
     )
-
-pub returns : goal.returns
-returns c =
-    let a = c.args in
-    (λ e. c.remove-gone.ensures.0 c.if-gone.false, λ runs el h r. (sym c.if-gone.false ∙ (c.remove-gone.ensures.1 runs el h r).0, λ e. absurd (clash (sym e))))

@@ -2,17 +2,16 @@
 use mathlib.Core.Path.{refl}
 use native.Mathlib.Omega.{arith}
 use Rattle.layout.proofs.Puts.{inserted, insert-fits}
-use borrow.Author.Rules.{rules}
 use Rattle.table.proofs.insert.Goals as goal
 
-pub returns-then-k-n : goal.returns-then-k-n
-returns-then-k-n c =
+pub returns-then-k-ws : goal.returns-then-k-ws
+returns-then-k-ws c =
     let a = c.args in
-    let l = c.locate-r.ensures in
-    λ runs el h. inserted a.ws.now a.c a.x _ _ _ (search rules) l.4 c.rank-u.ensures.0 refl runs el h _ c.put.auto.ws c.put.ensures
+    λ runs el h. inserted a.ws.now a.c a.x _ _ _ c.requires.0 c.locate-run.ensures.4 c.rank-rank.ensures.0 refl runs el h _ c.put.auto.ws c.put.ensures
 
-pub returns-else-k-n : goal.returns-else-k-n
-returns-else-k-n c =
+pub returns-else-k-ws : goal.returns-else-k-ws
+returns-else-k-ws c =
     let a = c.args in
-    let l = c.locate-r.ensures in
-    λ runs el h. absurd (omega (arith, insert-fits a.ws.now a.c a.x c.locate-r.result.carry c.rank-u.result _ (search rules) l.4 c.rank-u.ensures.0 refl runs el h))
+    let r = c.locate-run in
+    let rank = c.rank-rank in
+    λ runs el h. absurd (omega (arith, insert-fits a.ws.now a.c a.x r.result.carry rank.result _ c.requires.0 r.ensures.4 rank.ensures.0 refl runs el h))

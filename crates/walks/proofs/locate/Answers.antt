@@ -1,6 +1,5 @@
 -- `walks::locate` meets its contract: an entry at home begins its run; else the walk finds it.
-use mathlib.Core.Path.{refl}
-use borrow.Author.Rules.{rules}
+use Rattle.std.proofs.Common.{refl, rules}
 use Rattle.walks.proofs.Homes.{home-located, home-carried}
 use Rattle.walks.proofs.locate.Goals as goal
 
@@ -13,6 +12,3 @@ returns-then-ws-c-eq0 c =
       home-located a.ws.now a.c _ (search rules) (search rules) refl c.if-ws-c-eq0.true,
       home-carried a.ws.now a.c _ (search rules) (search rules) refl c.if-ws-c-eq0.true,
     )
-
-pub returns : goal.returns
-returns c = c.walk_to_run.ensures

@@ -13,5 +13,5 @@ words_taken-requires c =
     (search rules, right-sizes a.self.k a.self.dir (bounds (plain a.self) c.requires).k_20 (directory-of (plain a.self) c.requires))
 
 pub returns : goal.returns
-returns c = let e = words-all _ _ _ c.places_in_use-n.ensures.0 c.words_taken.ensures.0 in
+returns c = let e = words-all _ _ _ c.places_in_use.ensures.0 c.words_taken.ensures.0 in
     (e, omega (arith, e, (bounds (plain c.args.self) c.requires).annex_small))

@@ -5,4 +5,4 @@ use Rattle.filter.proofs.Record.audited.Goals as goal
 
 pub returns : goal.returns
 unfolding refused
-returns c = record { number_is = c.audit-n.ensures; rec_is = refl; main_is = refl; queue_is = refl; annex_is = refl }
+returns c = record { number_is = c.audit.ensures; rec_is = refl; main_is = refl; queue_is = refl; annex_is = refl }

@@ -1,2 +1,0 @@
--- The laws of the exported functions.
-pub mod Bytes

@@ -1,2 +1,0 @@
--- The place of the table of one length.
-pub mod Lookup

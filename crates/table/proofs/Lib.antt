@@ -1,2 +1,0 @@
--- A table of zeros.
-pub mod Clears

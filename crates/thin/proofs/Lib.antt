@@ -1,0 +1,2 @@
+-- The laws of Query on bytes.
+pub mod Bytes

@@ -1,0 +1,2 @@
+-- Words on a table that the contracts of its walks use.
+pub mod Stretch
