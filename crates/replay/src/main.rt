@@ -4,7 +4,7 @@
 ghost use Rattle.std.specs.Prelude.{◌≤◌};
 
 use filter::{Answer, Record};
-use script::input::{ScriptError, Source};
+use script::input::{ScriptError, Source, passed};
 use script::output::{Part, Short, State, Whole};
 use std::io::{self, Read, Write};
 
@@ -116,10 +116,12 @@ impl Filter {
     }
 
     fn load<R: Read>(&mut self, source: &mut Source<R>) -> Result<(), ScriptError> {
-        self.record = source.record()?;
-        self.main.load(source)?;
-        self.queue.load(source)?;
-        self.annex.load(source)
+        let record = passed(source.record())?;
+        let main = passed(self.main.load(source))?;
+        let queue = passed(self.queue.load(source))?;
+        self.annex.load(source)?;
+        self.record = record.ok_or(ScriptError::Wrong)?;
+        main.and(queue).ok_or(ScriptError::Wrong)
     }
 }
 
@@ -192,10 +194,13 @@ impl<R: Read, W: Write> Replay<R, W> {
 
     // The exported Query, on bytes of the words lent.
     fn bytes(&mut self) -> Result<(), ScriptError> {
-        let k = self.source.word()?;
-        let w = self.source.word()?;
-        let hash = self.source.number()?;
+        let k = passed(self.source.word())?;
+        let w = passed(self.source.word())?;
+        let hash = passed(self.source.number())?;
         let count = self.source.word()? as usize;
+        let k = k.ok_or(ScriptError::Wrong)?;
+        let w = w.ok_or(ScriptError::Wrong)?;
+        let hash = hash.ok_or(ScriptError::Wrong)?;
         let mut memory = [0u8; 65540];
         let bytes = memory.get_mut(..count).ok_or(ScriptError::Wrong)?;
         put_words(bytes, self.filter.main.lent());
