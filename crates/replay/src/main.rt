@@ -192,21 +192,27 @@ impl<R: Read, W: Write> Replay<R, W> {
         Ok(())
     }
 
-    // The exported Query, on bytes of the words lent.
-    fn bytes(&mut self) -> Result<(), ScriptError> {
-        let k = passed(self.source.word())?;
-        let w = passed(self.source.word())?;
-        let hash = passed(self.source.number())?;
-        let count = self.source.word()? as usize;
-        let k = k.ok_or(ScriptError::Wrong)?;
-        let w = w.ok_or(ScriptError::Wrong)?;
-        let hash = hash.ok_or(ScriptError::Wrong)?;
+    // The exported Query, on the first bytes of the words lent, as many as are asked for.
+    fn query_bytes(&mut self, k: u32, w: u32, hash: u64, count: u32) -> Result<(), ScriptError> {
         let mut memory = [0u8; 65540];
-        let bytes = memory.get_mut(..count).ok_or(ScriptError::Wrong)?;
+        let bytes = memory.get_mut(..count as usize).ok_or(ScriptError::Wrong)?;
         put_words(bytes, self.filter.main.lent());
         let answer = thin::query_bytes(k, w, hash, bytes);
         writeln!(self.out, "{}", filter::answer_number(answer))?;
         Ok(())
+    }
+
+    fn bytes(&mut self) -> Result<(), ScriptError> {
+        let k = passed(self.source.word())?;
+        let w = passed(self.source.word())?;
+        let hash = passed(self.source.number())?;
+        let count = self.source.word()?;
+        self.query_bytes(
+            k.ok_or(ScriptError::Wrong)?,
+            w.ok_or(ScriptError::Wrong)?,
+            hash.ok_or(ScriptError::Wrong)?,
+            count,
+        )
     }
 
     fn step(&mut self, call: Call) -> Result<(), ScriptError> {
