@@ -73,18 +73,22 @@ module _ (r : Filter) (main queue annex : List ℕ) where
     pub wide : w ≤ 26
     pub tall : k ≤ 20
 
-  pub walk : Lent → (h c w : ℕ) → c ≡ home r h → w ≡ width r → Walk c w r.k
-  walk z h c w ec ew =
+  pub walk : Lent → (c w : ℕ) → c < 2 ^ r.k → w ≡ width r → Walk c w r.k
+  walk z c w hc ew =
       let b = bounds_of z in
       let l = main-length z in
       let e : 2 ^ 1 ≤ 2 ^ r.k = lib.Pow.pow_mono {i = 1} {j = r.k} (omega (arith, b.k_3)) in
       record {
-        inside = omega (arith, home-lt r h);
+        inside = omega arith;
         most = omega (arith, b.slots);
         more = omega arith;
         wide = omega (arith, b.width_26);
         tall = b.k_20;
       }
+
+  -- .. and at the canonical slot of h
+  pub walk-home : Lent → (h c w : ℕ) → c ≡ home r h → w ≡ width r → Walk c w r.k
+  walk-home z h c w ec ew = walk z c w (omega (arith, home-lt r h)) ew
 
   -- what the walk found
   module _ (h c w : ℕ) (ec : c ≡ home r h) (ew : w ≡ width r) (o : Option ℕ) (m : First (matches w r.k h) (run_at main c) o) where

@@ -4,7 +4,7 @@
 ghost use Rattle.std.specs.Prelude.{◌≤◌};
 
 use filter::{Answer, Record};
-use script::input::{ScriptError, Source};
+use script::input::{ScriptError, Source, passed};
 use script::output::{Part, Short, State, Whole};
 use std::io::{self, Read, Write};
 
@@ -116,10 +116,12 @@ impl Filter {
     }
 
     fn load<R: Read>(&mut self, source: &mut Source<R>) -> Result<(), ScriptError> {
-        self.record = source.record()?;
-        self.main.load(source)?;
-        self.queue.load(source)?;
-        self.annex.load(source)
+        let record = passed(source.record())?;
+        let main = passed(self.main.load(source))?;
+        let queue = passed(self.queue.load(source))?;
+        self.annex.load(source)?;
+        self.record = record.ok_or(ScriptError::Wrong)?;
+        main.and(queue).ok_or(ScriptError::Wrong)
     }
 }
 
@@ -190,18 +192,27 @@ impl<R: Read, W: Write> Replay<R, W> {
         Ok(())
     }
 
-    // The exported Query, on bytes of the words lent.
-    fn bytes(&mut self) -> Result<(), ScriptError> {
-        let k = self.source.word()?;
-        let w = self.source.word()?;
-        let hash = self.source.number()?;
-        let count = self.source.word()? as usize;
+    // The exported Query, on the first bytes of the words lent, as many as are asked for.
+    fn query_bytes(&mut self, k: u32, w: u32, hash: u64, count: u32) -> Result<(), ScriptError> {
         let mut memory = [0u8; 65540];
-        let bytes = memory.get_mut(..count).ok_or(ScriptError::Wrong)?;
+        let bytes = memory.get_mut(..count as usize).ok_or(ScriptError::Wrong)?;
         put_words(bytes, self.filter.main.lent());
         let answer = thin::query_bytes(k, w, hash, bytes);
         writeln!(self.out, "{}", filter::answer_number(answer))?;
         Ok(())
+    }
+
+    fn bytes(&mut self) -> Result<(), ScriptError> {
+        let k = passed(self.source.word())?;
+        let w = passed(self.source.word())?;
+        let hash = passed(self.source.number())?;
+        let count = self.source.word()?;
+        self.query_bytes(
+            k.ok_or(ScriptError::Wrong)?,
+            w.ok_or(ScriptError::Wrong)?,
+            hash.ok_or(ScriptError::Wrong)?,
+            count,
+        )
     }
 
     fn step(&mut self, call: Call) -> Result<(), ScriptError> {

@@ -1,5 +1,6 @@
 // The numbers of a script, read by way of a buffer.
 ghost use Rattle.std.specs.Prelude.{◌≡◌, ◌+◌, ◌-◌, ◌*◌, ◌^◌, ◌≤◌, ◌<◌, ◌↔◌, length, IsSome, IfSome, IfOk};
+ghost use Rattle.script.specs.Passed.{passed};
 ghost use Rattle.script.specs.declared.input.ScriptError.TheVariants.{Io};
 
 use directory::Place;
@@ -81,15 +82,19 @@ impl<R: Read> Source<R> {
         Err(ScriptError::Wrong)
     }
 
-    /// A number below 2^64, of at most 20 digits, and the blank behind it.
+    /// A number below 2^64, of at most 20 digits, and the byte behind it, which has to be a blank.
     pub fn number(&mut self) -> Result<u64, ScriptError> {
-        let mut value = longer(0, self.past_blanks()?).ok_or(ScriptError::Wrong)?;
+        let first = longer(0, self.past_blanks()?).ok_or(ScriptError::Wrong)?;
+        let mut value = Some(first);
         for _ in 0..20 {
             let byte = self.byte()?;
             if is_blank(byte) {
-                return Ok(value);
+                return value.ok_or(ScriptError::Wrong);
             }
-            value = longer(value, byte).ok_or(ScriptError::Wrong)?;
+            if !byte.is_ascii_digit() {
+                return Err(ScriptError::Wrong);
+            }
+            value = value.and_then(|value| longer(value, byte));
         }
         Err(ScriptError::Wrong)
     }
@@ -101,7 +106,14 @@ impl<R: Read> Source<R> {
 
     /// Three numbers below 2^32.
     pub fn three(&mut self) -> Result<[u32; 3], ScriptError> {
-        Ok([self.word()?, self.word()?, self.word()?])
+        let a = passed(self.word())?;
+        let b = passed(self.word())?;
+        let c = self.word()?;
+        Ok([
+            a.ok_or(ScriptError::Wrong)?,
+            b.ok_or(ScriptError::Wrong)?,
+            c,
+        ])
     }
 
     /// A number of words and then the words, as many as the memory has at most.
@@ -112,26 +124,38 @@ impl<R: Read> Source<R> {
         if memory.len() < count {
             return Err(ScriptError::Wrong);
         }
+        let mut right = true;
         for word in &mut memory[..count] {
-            *word = self.word()?;
+            match passed(self.word())? {
+                Some(value) => *word = value,
+                None => right = false,
+            }
         }
-        Ok(count)
+        right.then_some(count).ok_or(ScriptError::Wrong)
     }
 
     fn places(&mut self) -> Result<[Place; 15], ScriptError> {
         let mut places = [Place::default(); 15];
+        let mut right = true;
         for place in &mut places {
-            let [b, s, count] = self.three()?;
-            *place = Place { b, s, count };
+            match passed(self.three())? {
+                Some(three) => {
+                    let [b, s, count] = three;
+                    *place = Place { b, s, count };
+                }
+                None => right = false,
+            }
         }
-        Ok(places)
+        right.then_some(places).ok_or(ScriptError::Wrong)
     }
 
     /// The six numbers of a record and its directory.
     pub fn record(&mut self) -> Result<Record, ScriptError> {
-        let [k, start, f] = self.three()?;
-        let [regime, used, queued] = self.three()?;
+        let first = passed(self.three())?;
+        let second = passed(self.three())?;
         let dir = self.places()?;
+        let [k, start, f] = first.ok_or(ScriptError::Wrong)?;
+        let [regime, used, queued] = second.ok_or(ScriptError::Wrong)?;
         Ok(Record {
             k,
             start,
@@ -141,6 +165,17 @@ impl<R: Read> Source<R> {
             queued,
             dir,
         })
+    }
+}
+
+/// None for what is wrong: a call is read to its end also behind a wrong number, and then a read that fails still ends the script.
+pub fn passed<T>(answer: Result<T, ScriptError>) -> Result<Option<T>, ScriptError>
+    ensures { result ≡ passed answer }
+{
+    match answer {
+        Ok(value) => Ok(Some(value)),
+        Err(ScriptError::Wrong) => Ok(None),
+        Err(error) => Err(error),
     }
 }
 

@@ -1,5 +1,5 @@
 -- The payload tests are spans of numbers: payloads with more than d bits left lie below 2^w - 2^d.
-use mathlib.Core.Path.{◌≡◌, refl, ap₂, ◌∙◌}
+use mathlib.Core.Path.{◌≡◌, refl}
 use mathlib.Core.Logic.{◌⊎◌, inl, inr}
 use mathlib.Core.Bool.{Bool, true, false, ◌&&◌, ◌||◌}
 use Prim.Native.Nat.{ℕ, suc, ◌+◌, ◌-◌, ◌^◌, ◌≤◌, ◌<◌}
@@ -9,8 +9,6 @@ use native.Mathlib.Decide.{dec_lt}
 use lib.Dec.{leb, ltb, eqb}
 use lib.Pow.{pow_mono}
 use borrow.Author.Tests.{eqb-true, ltb-true, leb-true, eq-eqb, lt-ltb, le-leb}
-use Rattle.std.specs.Ordering.{nat_cmp, is_le, is_lt}
-use Rattle.std.proofs.lemmas.Bool.Decides.{nat_tests}
 use Rattle.slots.specs.Payload.{rest_of, length_of}
 use Rattle.slots.proofs.PayloadLaws.{rest-range}
 use Rattle.sound.specs.declared.Spans.{Spans}
@@ -151,30 +149,6 @@ module _ (l p : ℕ) where
 
   pub annex-spans : allowed (annex_spans l) p ≡ annex_entry l p
   annex-spans = same_test (allowed (annex_spans l) p) (annex_entry l p) annex-in in-annex
-
--- ---- the code's tests
-
-le-is : (a b : ℕ) → is_le (nat_cmp a b) ≡ leb a b
-le-is a b = grind (arith, nat_tests)
-
-lt-is : (a b : ℕ) → is_lt (nat_cmp a b) ≡ ltb a b
-lt-is a b = grind (arith, nat_tests)
-
--- what `contains` answers
-abbrev within : ℕ → ℕ → ℕ → Bool
-within a b p = is_le (nat_cmp a p) && is_lt (nat_cmp p b)
-
-within-is : (a b p : ℕ) → within a b p ≡ (leb a p && ltb p b)
-within-is a b p = ap₂ (λ (x y : Bool). x && y) (le-is a p) (lt-is p b)
-
-module _ (t : Spans) (p : ℕ) (kept : Bool) (e : kept ≡ within t.kept.start t.kept.end p) where
-  pub allow-kept : kept ≡ true → kept ≡ allowed t p
-  unfolding allowed
-  allow-kept h = rw (← within-is t.kept.start t.kept.end p, ← e, h)
-
-  pub allow-lost : kept ≡ false → (lost : Bool) → lost ≡ within t.lost.start t.lost.end p → lost ≡ allowed t p
-  unfolding allowed
-  allow-lost h lost f = rw (← within-is t.kept.start t.kept.end p, ← e, h) (f ∙ within-is t.lost.start t.lost.end p)
 
 -- as tests
 pub main-test : (w k : ℕ) → allowed (main_spans w k) ≡ main_entry w k

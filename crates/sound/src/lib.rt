@@ -1,7 +1,7 @@
 #![tactic(auto)]
 
 // The audit of one table: is it the layout of what it decodes to, and what a run holds.
-ghost use Rattle.std.specs.Prelude.{◌≡◌, ◌≢◌, ℕ, ◌/◌, ◌≤◌, ◌<◌, ◌==◌, Some, length, slice_index, slice_get, IfSome, IfNone};
+ghost use Rattle.std.specs.Prelude.{◌≡◌, ◌≢◌, ◌&&◌, ℕ, ◌/◌, ◌≤◌, ◌<◌, ◌==◌, nat_le, nat_lt, Some, length, slice_index, slice_get, IfSome, IfNone};
 ghost use Rattle.lists.specs.Lists.{bit};
 ghost use Rattle.layout.specs.Decode.{turn};
 ghost use Rattle.rules.specs.Sound.{table_right, main_entry, annex_entry};
@@ -9,20 +9,34 @@ ghost use Rattle.sound.specs.Spans.{allowed};
 ghost use Rattle.sound.specs.Lap.{no_entry, an_entry, goes_on, step, fits, start};
 ghost use Rattle.sound.specs.Reading.{Read};
 
-use std::ops::Range;
+// The payloads from `start` on, below `end`. No `Range`: that is an iterator, and so not copied.
+#[derive(Clone, Copy)]
+pub struct Span {
+    pub start: u32,
+    pub end: u32,
+}
+
+impl Span {
+    fn contains(self, payload: u32) -> bool
+        ensures { result ≡ (nat_le self.start payload && nat_lt payload self.end) }
+    {
+        self.start <= payload && payload < self.end
+    }
+}
 
 // The payloads that a table may hold: those that keep bits, and those that have lost all.
-#[derive(Drop)]
+#[derive(Clone, Copy)]
 pub struct Spans {
-    pub kept: Range<u32>,
-    pub lost: Range<u32>,
+    pub kept: Span,
+    pub lost: Span,
 }
 
 impl Spans {
+    #[tactic(auto, unfolding(crate::specs::Spans::allowed))]
     fn allow(&self, payload: u32) -> bool
         ensures { result ≡ allowed self.now payload }
     {
-        self.kept.contains(&payload) || self.lost.contains(&payload)
+        self.kept.contains(payload) || self.lost.contains(payload)
     }
 }
 
@@ -34,8 +48,14 @@ pub fn main_spans(k: u32, w: u32) -> Spans
     let end = slots::pow2(w);
     let short = slots::pow2(6u32.saturating_sub(k));
     Spans {
-        kept: 0..end - short,
-        lost: end - 2..end,
+        kept: Span {
+            start: 0,
+            end: end - short,
+        },
+        lost: Span {
+            start: end - 2,
+            end,
+        },
     }
 }
 
@@ -46,8 +66,11 @@ pub fn annex_spans(l: u32) -> Spans
 {
     let end = slots::pow2(18);
     Spans {
-        kept: end - slots::pow2(l + 1)..end - slots::pow2(l),
-        lost: 0..0,
+        kept: Span {
+            start: end - slots::pow2(l + 1),
+            end: end - slots::pow2(l),
+        },
+        lost: Span { start: 0, end: 0 },
     }
 }
 

@@ -18,7 +18,7 @@ pub sum-requires-clause-can : goal.sum-requires-clause-can
 sum-requires-clause-can c =
     let ps = take c.args.n c.args.places in (
       tt,
-      serves_from_places (YieldsList-from_slice ps (cc)) (λ x q k. refl)
+      serves_from_places (YieldsList-from_slice ps (search rules)) (λ x q k. refl)
           (λ x k h e. let s = small-at c.args.places c.requires.1 c.args.n x.now k h e in search rules),
     )
 
@@ -28,7 +28,7 @@ sum-requires-clause-fits c =
     let l : length c.args.places ≡ 15 = search rules in
     let most = words-bounded c.args.places c.requires.1 c.args.n (in-use-most _ _ l c.requires.0) in
     let total : sum (map words_of ps) < 2 ^ 64 = omega (arith, most, sum-map words_of ps) in
-    fits_from_yields_list _ _ (YieldsList-from_map _ words_of (YieldsList-from_slice ps (cc)) refl (λ x r q k. search rules)) total
+    fits_from_yields_list _ _ (YieldsList-from_map _ words_of (YieldsList-from_slice ps (search rules)) refl (λ x r q k. search rules)) total
 
 pub returns : goal.returns
 returns c =
@@ -37,5 +37,5 @@ returns c =
     let most = words-bounded c.args.places c.requires.1 c.args.n (in-use-most _ _ l c.requires.0) in
     let summed : c.sum.result ≡ sum_by words_of ps =
     sum_by_from_yields_List words_of ps _ _ c.sum.ensures.ran
-    (YieldsList-from_map _ words_of (YieldsList-from_slice ps (cc)) refl (λ x r q k. search rules)) in
+    (YieldsList-from_map _ words_of (YieldsList-from_slice ps (search rules)) refl (λ x r q k. search rules)) in
     (words-summed c.args.places c.args.n _ c.requires.0 summed, omega arith)

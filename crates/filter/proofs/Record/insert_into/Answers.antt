@@ -5,7 +5,7 @@ use Rattle.std.proofs.lemmas.Result.{err_from_is_err_and}
 use Rattle.rules.specs.Record.{change}
 use Rattle.filter.specs.Plain.{plain}
 use Rattle.filter.proofs.Refused.{not-0}
-use Rattle.filter.proofs.Quicks.{right, bounds_of, walk, insert-refused, insert-full, insert-fits, insert-done}
+use Rattle.filter.proofs.Quicks.{right, bounds_of, walk-home, insert-refused, insert-full, insert-fits, insert-done}
 use Rattle.filter.proofs.Record.insert_into.Goals as goal
 
 pub returns-in_err-first_refusal : goal.returns-in_err-first_refusal
@@ -29,7 +29,7 @@ fresh_entry-requires c = right (plain c.args.self.now) _ _ _ c.in_ok-first_refus
 pub insert-requires : goal.insert-requires
 insert-requires c =
     let a = c.args in
-    let v = walk (plain a.self.now) a.main.now a.queue.now a.annex.now c.in_ok-first_refusal.ensures a.hash _ _ c.home.ensures refl in
+    let v = walk-home (plain a.self.now) a.main.now a.queue.now a.annex.now c.in_ok-first_refusal.ensures a.hash _ _ c.home.ensures refl in
     (v.inside, v.most, v.more, c.fresh_entry.ensures.1)
 
 pub overflow_add-self : goal.overflow_add-self

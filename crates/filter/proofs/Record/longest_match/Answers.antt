@@ -1,7 +1,7 @@
 -- The walk finds the first match of the run on any memory, and in a rising run that is the longest.
 use Rattle.std.proofs.lemmas.Result.{err_from_is_err_and}
 use Rattle.filter.specs.Plain.{plain}
-use Rattle.filter.proofs.Quicks.{right, walk, sought}
+use Rattle.filter.proofs.Quicks.{right, walk-home, sought}
 use Rattle.filter.proofs.Record.longest_match.Goals as goal
 
 pub returns-in_err-first_refusal : goal.returns-in_err-first_refusal
@@ -17,7 +17,7 @@ width-requires c = right (plain c.args.self.now) _ _ _ c.in_ok-first_refusal.ens
 pub first_match-requires : goal.first_match-requires
 first_match-requires c =
     let a = c.args in
-    let v = walk (plain a.self.now) a.main.now a.queue.now a.annex.now c.in_ok-first_refusal.ensures a.hash _ _ c.home.ensures c.width.ensures.0 in
+    let v = walk-home (plain a.self.now) a.main.now a.queue.now a.annex.now c.in_ok-first_refusal.ensures a.hash _ _ c.home.ensures c.width.ensures.0 in
     (v.inside, v.most, v.more, v.wide, v.tall)
 
 pub returns : goal.returns

@@ -1,0 +1,2 @@
+-- What is read of a script.
+pub mod Passed
